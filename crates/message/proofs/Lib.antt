@@ -1,0 +1,6 @@
+pub mod Shapes
+pub mod Forms
+pub mod Whole
+pub mod Apart
+pub mod Spoken
+pub mod Closure
