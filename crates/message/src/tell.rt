@@ -33,7 +33,7 @@ pub impl From<AllocError> for WordsError as WordsFromAllocError {
     }
 }
 
-pub impl From<fmt::Error> for WordsError as WordsFromFormat {
+impl From<fmt::Error> for WordsError as WordsFromFormat {
     ghost converts = { λ _ r. r ≡ NoMemory };
 
     fn from(_: fmt::Error) -> WordsError {

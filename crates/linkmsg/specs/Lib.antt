@@ -1,0 +1,3 @@
+pub mod Explaining
+pub mod Lines
+pub mod Counting
