@@ -48,7 +48,7 @@ Lettered t m =
     (When (eqb t 80) ((l : Msg) × (r : Msg) × (m ≡ pair l r))
     (When (eqb t 69) ((a : ℕ) × (b : ℕ) × (c : Msg) × (m ≡ seal (shared a b) c)) ⊥)))))
 
-by-tag : (m : Msg) → Lettered (tag m) m
+pub by-tag : (m : Msg) → Lettered (tag m) m
 by-tag (agent n) = (n, refl)
 by-tag (nonce n) = (n, refl)
 by-tag (text n) = (n, refl)

@@ -1,7 +1,7 @@
 // Messages: their byte form read, taken apart, built, compared and told in words; and what the enemy can make of them.
 ghost use Prim.Native.Nat.{ℕ};
 ghost use mathlib.Core.Path.{_≡_};
-ghost use Rattle.message.specs.Laws.{Building-suffices, Parts-are-messages, Read-back, Unique-reading};
+ghost use Rattle.message.specs.Laws.{Building-suffices, Parts-are-messages, Read-back, Telling-words, Unique-reading};
 
 mod buffer;
 mod read;
@@ -53,4 +53,9 @@ pub fn parts_are_messages()
 // What is generated from a set that taking apart does not leave is built by pairing and sealing alone.
 pub fn building_suffices()
     ensures { λ _. ⌜ Building-suffices ⌝ }
+{}
+
+// The words tell messages apart.
+pub fn words_tell_apart()
+    ensures { λ _. ⌜ Telling-words ⌝ }
 {}
