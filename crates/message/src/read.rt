@@ -1,4 +1,6 @@
 // Reading messages from bytes: the one at the front, whether the whole is one, its parts.
+ghost use mathlib.Core.Path.{_≡_};
+ghost use Prim.Native.Nat.{_+_, _*_};
 ghost use Rattle.message.specs.Message.{IsMessage};
 ghost use Rattle.message.specs.Reading.{Fronts, Leaves, Same, Splits};
 ghost use Rattle.std.specs.Orderings.{Decides};
@@ -90,6 +92,13 @@ pub fn same_message(a: &[u8], b: &[u8]) -> bool
     a == b && is_message(a)
 }
 
+// A number from its two bytes, the high one first.
+fn number(high: u8, low: u8) -> u16
+    ensures { λ r. ⌜ r ≡ high * 256 + low ⌝ }
+{
+    u16::from_be_bytes([high, low])
+}
+
 // The parts of a message.
 pub fn take_apart(bytes: &[u8]) -> Result<Parts<'_>, NotMessage>
     ensures { λ r. ⌜ Splits (now (bytes .entry)) r ⌝ }
@@ -106,11 +115,11 @@ pub fn take_apart(bytes: &[u8]) -> Result<Parts<'_>, NotMessage>
             [] => Err(NotMessage),
         },
         'N' => match body {
-            [high, low, ..] => Ok(Parts::Nonce(u16::from_be_bytes([*high, *low]))),
+            [high, low, ..] => Ok(Parts::Nonce(number(*high, *low))),
             _ => Err(NotMessage),
         },
         'T' => match body {
-            [high, low, ..] => Ok(Parts::Text(u16::from_be_bytes([*high, *low]))),
+            [high, low, ..] => Ok(Parts::Text(number(*high, *low))),
             _ => Err(NotMessage),
         },
         'K' => match body {

@@ -23,13 +23,13 @@ pub returns-in-rest-body : need.returns-in-rest-body
 returns-in-rest-body c w = omega (arith, ltb-true, ltb-false, nonce-length _ _ w (tagged _ 78 (c .in-N .is) (search needs)))
 
 pub returns-in-len2-up : need.returns-in-len2-up
-returns-in-len2-up c = nonce-parts _ _ (c .is-message .ensures .0 (c .if-not-is-message .left)) (tagged _ 78 (c .in-N .is) (search needs)) _ (c .from-be-bytes .ensures)
+returns-in-len2-up c = nonce-parts _ _ (c .is-message .ensures .0 (c .if-not-is-message .left)) (tagged _ 78 (c .in-N .is) (search needs)) _ (c .number .ensures)
 
 pub returns-in-rest-body-2 : need.returns-in-rest-body-2
 returns-in-rest-body-2 c w = omega (arith, ltb-true, ltb-false, text-length _ _ w (tagged _ 84 (c .in-T .is) (search needs)))
 
 pub returns-in-len2-up-body : need.returns-in-len2-up-body
-returns-in-len2-up-body c = text-parts _ _ (c .is-message .ensures .0 (c .if-not-is-message .left)) (tagged _ 84 (c .in-T .is) (search needs)) _ (c .from-be-bytes-in-len2-up-body .ensures)
+returns-in-len2-up-body c = text-parts _ _ (c .is-message .ensures .0 (c .if-not-is-message .left)) (tagged _ 84 (c .in-T .is) (search needs)) _ (c .number-in-len2-up-body .ensures)
 
 pub returns-in-rest-body-3 : need.returns-in-rest-body-3
 returns-in-rest-body-3 c w = omega (arith, ltb-true, ltb-false, key-length _ _ w (tagged _ 75 (c .in-K .is) (search needs)))
