@@ -15,6 +15,7 @@ pub use read::read_front;
 pub use read::same_message;
 pub use read::take_apart;
 pub use tell::WordsError;
+pub use tell::WordsErrorDebug;
 pub use tell::WordsFromAllocError;
 pub use tell::WordsFromNotMessage;
 pub use tell::words;
