@@ -4,6 +4,8 @@ use mathlib.Core.List.{List, [], _∷_, _++_}
 use mathlib.Core.Path.{_≡_}
 use Prim.Native.Nat.{ℕ, _/_, _%_, _<_, _≤_, min, max}
 use lib.ListN.{length}
+use Rattle.message.specs.declared.Kind.{Kind}
+use Rattle.message.specs.declared.Kind.the-variants.{Agent, Nonce, Text}
 
 -- A key belongs to two agents in no order, or to one twice. The lesser or equal one is put first, so that a key has one name.
 pub data Key : Type 0 where
@@ -20,22 +22,17 @@ pub data Msg : Type 0 where
   seal : Key → Msg → Msg
   deriving Discrete as Msg-discrete
 
--- The kinds of numbered atoms.
-pub data Kind : Type 0 where
-  agents : Kind
-  nonces : Kind
-  texts : Kind
-
+-- The atom of a kind and number.
 abbrev pub atom : Kind → ℕ → Msg
-atom agents n = agent n
-atom nonces n = nonce n
-atom texts n = text n
+atom Agent n = agent n
+atom Nonce n = nonce n
+atom Text n = text n
 
 -- How many there are of a kind; they are numbered from 0.
 abbrev pub size : Kind → ℕ
-size agents = 256
-size nonces = 65536
-size texts = 65536
+size Agent = 256
+size Nonce = 65536
+size Text = 65536
 
 -- The key of two agents, in whichever order they are given.
 abbrev pub keyOf : ℕ → ℕ → Key
@@ -59,13 +56,13 @@ wire (pair l r) = 80 ∷ wire l ++ wire r
 wire (seal k m) = 69 ∷ keyBytes k ++ wire m
 
 abbrev pub KeyFits : Key → Type 0
-KeyFits (shared a b) = (a ≤ b) × (b < size agents)
+KeyFits (shared a b) = (a ≤ b) × (b < size Agent)
 
 -- Every number is one of its kind, and every key has its lesser or equal agent first.
 abbrev pub Fits : Msg → Type 0
-Fits (agent n) = n < size agents
-Fits (nonce n) = n < size nonces
-Fits (text n) = n < size texts
+Fits (agent n) = n < size Agent
+Fits (nonce n) = n < size Nonce
+Fits (text n) = n < size Text
 Fits (key k) = KeyFits k
 Fits (pair l r) = Fits l × Fits r
 Fits (seal k m) = KeyFits k × Fits m

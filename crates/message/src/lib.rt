@@ -20,6 +20,14 @@ pub use tell::WordsFromAllocError;
 pub use tell::WordsFromNotMessage;
 pub use tell::words;
 
+// The kinds of numbered atoms.
+#[derive(Clone, Copy, PartialEq, Eq, Debug)]
+pub enum Kind {
+    Agent,
+    Nonce,
+    Text,
+}
+
 // No message has more bytes.
 pub const MOST: usize = 96;
 

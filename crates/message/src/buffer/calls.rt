@@ -4,15 +4,16 @@ ghost use mathlib.Core.List.{[], _∷_};
 ghost use mathlib.Core.Path.{_≡_};
 ghost use Prim.Native.Nat.{_<_, max, min};
 ghost use Rattle.message.specs.Building.{Adds, written};
-ghost use Rattle.message.specs.Message.{agent, agents, key, keyBytes, keyOf, nonce, nonces, size, text, texts, wire};
+ghost use Rattle.message.specs.Message.{agent, atom, key, keyBytes, keyOf, nonce, size, text, wire};
 ghost use Rattle.std.specs.Results.{Cases};
+use super::super::Kind;
 use super::super::MOST;
 use super::super::NotMessage;
 use super::Message;
 
 // The owners of a key as bytes, the lesser or equal one first.
 fn owners(a: u16, b: u16) -> Result<[u8; 2], NotMessage>
-    ensures { λ r. ⌜ Cases r (λ pair. (a < size agents) × (b < size agents) × (pair ≡ min a b ∷ max a b ∷ [])) (λ _. (a < size agents) × (b < size agents) → ⊥) ⌝ }
+    ensures { λ r. ⌜ Cases r (λ pair. (a < size Kind.Agent) × (b < size Kind.Agent) × (pair ≡ min a b ∷ max a b ∷ [])) (λ _. (a < size Kind.Agent) × (b < size Kind.Agent) → ⊥) ⌝ }
 {
     match (u8::try_from(a.min(b)), u8::try_from(a.max(b))) {
         (Ok(lesser), Ok(greater)) => Ok([lesser, greater]),
@@ -40,7 +41,7 @@ impl Message {
 
     // An agent, by its number.
     pub fn agent(&mut self, number: u16) -> Result<(), NotMessage>
-        ensures { λ r. ⌜ Adds (number < size agents) (wire (agent number)) (now (self .entry)) (now (self .exit)) r ⌝ }
+        ensures { λ r. ⌜ Adds (number < size Kind.Agent) (wire (agent number)) (now (self .entry)) (now (self .exit)) r ⌝ }
     {
         match u8::try_from(number) {
             Ok(byte) => self.append(&[b'A', byte]),
@@ -50,7 +51,7 @@ impl Message {
 
     // A nonce, by its number.
     pub fn nonce(&mut self, number: u16) -> Result<(), NotMessage>
-        ensures { λ r. ⌜ Adds (number < size nonces) (wire (nonce number)) (now (self .entry)) (now (self .exit)) r ⌝ }
+        ensures { λ r. ⌜ Adds (number < size Kind.Nonce) (wire (nonce number)) (now (self .entry)) (now (self .exit)) r ⌝ }
     {
         let [high, low] = number.to_be_bytes();
         self.append(&[b'N', high, low])
@@ -58,15 +59,26 @@ impl Message {
 
     // A text, by its number.
     pub fn text(&mut self, number: u16) -> Result<(), NotMessage>
-        ensures { λ r. ⌜ Adds (number < size texts) (wire (text number)) (now (self .entry)) (now (self .exit)) r ⌝ }
+        ensures { λ r. ⌜ Adds (number < size Kind.Text) (wire (text number)) (now (self .entry)) (now (self .exit)) r ⌝ }
     {
         let [high, low] = number.to_be_bytes();
         self.append(&[b'T', high, low])
     }
 
+    // An atom, by its kind and number.
+    pub fn atom(&mut self, kind: Kind, number: u16) -> Result<(), NotMessage>
+        ensures { λ r. ⌜ Adds (number < size kind) (wire (atom kind number)) (now (self .entry)) (now (self .exit)) r ⌝ }
+    {
+        match kind {
+            Kind::Agent => self.agent(number),
+            Kind::Nonce => self.nonce(number),
+            Kind::Text => self.text(number),
+        }
+    }
+
     // The key of two agents, given in either order.
     pub fn key(&mut self, a: u16, b: u16) -> Result<(), NotMessage>
-        ensures { λ r. ⌜ Adds ((a < size agents) × (b < size agents)) (wire (key (keyOf a b))) (now (self .entry)) (now (self .exit)) r ⌝ }
+        ensures { λ r. ⌜ Adds ((a < size Kind.Agent) × (b < size Kind.Agent)) (wire (key (keyOf a b))) (now (self .entry)) (now (self .exit)) r ⌝ }
     {
         let [lesser, greater] = owners(a, b)?;
         self.append(&[b'K', lesser, greater])
@@ -81,7 +93,7 @@ impl Message {
 
     // The start of a seal under the key of two agents: its content follows.
     pub fn seal(&mut self, a: u16, b: u16) -> Result<(), NotMessage>
-        ensures { λ r. ⌜ Adds ((a < size agents) × (b < size agents)) (69 ∷ keyBytes (keyOf a b)) (now (self .entry)) (now (self .exit)) r ⌝ }
+        ensures { λ r. ⌜ Adds ((a < size Kind.Agent) × (b < size Kind.Agent)) (69 ∷ keyBytes (keyOf a b)) (now (self .entry)) (now (self .exit)) r ⌝ }
     {
         let [lesser, greater] = owners(a, b)?;
         self.append(&[b'E', b'K', lesser, greater])
