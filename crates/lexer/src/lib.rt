@@ -62,6 +62,7 @@ impl Rule {
         }
     }
 
+    // The row of the table in which it stands.
     pub fn row(self) -> Row
         ensures { λ r. ⌜ r ≡ rowOf self ⌝ }
     {

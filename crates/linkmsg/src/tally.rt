@@ -3,6 +3,7 @@ ghost use mathlib.Core.Path.{_≡_};
 ghost use Rattle.linkmsg.specs.Counting.{counted, none};
 use super::explain::Answer;
 
+// The lines so far, and how many of them came to each answer.
 #[derive(Clone, Copy)]
 pub struct Tally {
     pub lines: u64,

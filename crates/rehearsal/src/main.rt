@@ -10,6 +10,9 @@ use terms::Name;
 use terms::Role;
 use terms::Sort;
 
+// No sheet has more bytes.
+const MOST_BYTES: u64 = 8192;
+
 // The name as text. All its letters are ASCII.
 fn text_of(name: &Name) -> &str {
     match from_utf8(name.as_bytes()) {
@@ -90,7 +93,8 @@ fn tell(rt: &LibcRuntime, contents: &Contents) -> Result<(), AnyError> {
 
 fn run(rt: &LibcRuntime) -> Result<(), AnyError> {
     let mut text = Vec::new(rt.alloc());
-    rt.stdin().read_to_end(&mut text)?;
+    // One byte past the most suffices to see that a text is too long.
+    rt.stdin().take(MOST_BYTES + 1).read_to_end(&mut text)?;
     let mut sheet = Sheet::new(rt.alloc());
     match sheet.read(text.as_slice()) {
         Ok(()) => {}

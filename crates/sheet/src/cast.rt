@@ -50,6 +50,7 @@ pub struct Title {
     pub player: Option<usize>,
 }
 
+// Agents, texts, roles and nonces, in sheet order.
 #[derive(Drop)]
 pub struct Cast {
     pub agents: Vec<Agent>,

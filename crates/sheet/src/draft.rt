@@ -55,6 +55,7 @@ pub enum Part {
     End,
 }
 
+// What is read so far, which lines may come next, and the lines of the section words.
 #[derive(Drop)]
 pub struct Draft {
     pub heap: Global,
@@ -114,6 +115,7 @@ fn read_claim_at(heap: Global, cast: &Cast, line: &Line, atoms: usize) -> Result
 }
 
 impl Draft {
+    // Nothing is read yet.
     pub fn new(heap: Global) -> Draft
         ensures { λ r. ⌜ draftOf r ≡ blank ⌝ }
     {

@@ -21,6 +21,7 @@ use terms::Nonce;
 use terms::Role;
 
 impl Cast {
+    // Nothing has a name yet.
     pub fn new(heap: Global) -> Cast
         ensures { λ r. ⌜ castOf r ≡ noCast ⌝ }
     {
@@ -32,6 +33,7 @@ impl Cast {
         }
     }
 
+    // Whether there is an agent.
     pub fn has_agents(&self) -> bool
         ensures { λ r. ⌜ r ≡ ltb 0 (length (castOf (now (self .entry)) .agents)) ⌝ }
     {
@@ -45,6 +47,7 @@ impl Cast {
         self.roles.len() < 3
     }
 
+    // One agent more, and so on for the others.
     pub fn add_agent(&mut self, agent: Agent) -> Result<(), Declined>
         ensures { λ r. ⌜ Becomes castOf (Ok (moreAgent (castOf (now (self .entry))) (agentOf agent))) (now (self .exit)) r ⌝ }
     {
@@ -88,6 +91,7 @@ impl Script {
         )
     }
 
+    // Whether there is a step.
     pub fn has_steps(&self) -> bool
         ensures { λ r. ⌜ r ≡ ltb 0 (length (scriptOf (now (self .entry)) .steps)) ⌝ }
     {

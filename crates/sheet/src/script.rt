@@ -44,6 +44,7 @@ const MOST_VARIABLES: usize = 5;
 
 const MOST_STEPS: usize = 8;
 
+// A role's title, its variables with where they first stand, and its steps.
 #[derive(Drop)]
 pub struct Script {
     pub title: Title,
@@ -53,6 +54,7 @@ pub struct Script {
 }
 
 impl Script {
+    // A role of which nothing but the title is read.
     pub fn new(heap: Global, title: Title) -> Script
         ensures { λ r. ⌜ scriptOf r ≡ newScript (titleOf title) ⌝ }
     {

@@ -39,6 +39,7 @@ pub struct Contents {
     pub marks: Vec<Ranked<Signal>>,
 }
 
+// A link sheet.
 #[derive(Drop)]
 pub struct Sheet {
     heap: Global,

@@ -54,6 +54,7 @@ const MOST_SEALS: usize = 12;
 
 const MOST_MARKS: usize = 6;
 
+// The free variables with where they first stand, and the ranks of atoms, seals and events.
 #[derive(Drop)]
 pub struct Table {
     pub free: Vec<Variable>,
@@ -134,6 +135,7 @@ fn find_numbered(scope: &Scope, word: &[u8]) -> Option<Field>
 }
 
 impl Table {
+    // No line is read yet.
     pub fn new(heap: Global) -> Table
         ensures { λ r. ⌜ tableOf r ≡ noTable ⌝ }
     {
@@ -320,6 +322,7 @@ impl Table {
         Ok(())
     }
 
+    // One `rank` line more.
     pub fn add_rank(&mut self, ranked: Ranked<Node>) -> Result<(), Declined>
         ensures { λ r. ⌜ Becomes tableOf (Ok (moreAtom (tableOf (now (self .entry))) (rankedOf (λ n. n) ranked))) (now (self .exit)) r ⌝ }
     {
@@ -336,6 +339,7 @@ impl Table {
         Ok(())
     }
 
+    // One `mark` line more.
     pub fn add_mark(&mut self, ranked: Ranked<Signal>) -> Result<(), Declined>
         ensures { λ r. ⌜ Becomes tableOf (Ok (moreMark (tableOf (now (self .entry))) (rankedOf signalOf ranked))) (now (self .exit)) r ⌝ }
     {

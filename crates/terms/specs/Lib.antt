@@ -2,7 +2,6 @@ pub mod Names
 pub mod Sheet
 pub mod Terms
 pub mod Usages
-pub mod Trees
 pub mod Same
 pub mod Stored
 pub mod Outcomes

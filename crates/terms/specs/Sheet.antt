@@ -16,7 +16,7 @@ pub record Signal : Type 0 where
   pub word : List ℕ
   pub fields : List Field
 
--- A step of a script. A term is its nodes in prefix order (`Trees`).
+-- A step of a script. A term is its nodes in prefix order.
 pub data Step : Type 0 where
   send : List Node → Step
   receive : List Node → Step

@@ -84,6 +84,7 @@ pub fn find<T: Named>(things: &[T], word: &[u8]) -> Option<usize>
     None
 }
 
+// The same by what each stands for, so that callers need not know how names are kept.
 pub fn find_agent(agents: &[Agent], word: &[u8]) -> Option<usize>
     ensures { λ r. ⌜ r ≡ indexOf (agentNames (map agentOf (now (agents .entry)))) (now (word .entry)) ⌝ }
 {

@@ -30,6 +30,7 @@ use std::alloc::Global;
 // No term has more words.
 const LONGEST: usize = 32;
 
+// A rule is broken at this place.
 pub fn decline<T>(rule: Rule, place: usize) -> Result<T, Declined>
     ensures { λ r. ⌜ r ≡ Err (Faulty (record { rule = rule; place = place })) ⌝ }
 {

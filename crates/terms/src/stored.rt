@@ -4,12 +4,14 @@ use super::term::Field;
 use super::term::Node;
 use super::term::Sort;
 
+// An agent, honest or the enemy's.
 #[derive(Clone, Copy)]
 pub struct Agent {
     pub name: Name,
     pub enemy: bool,
 }
 
+// A variable of a role or of the ranks.
 #[derive(Clone, Copy)]
 pub struct Variable {
     pub name: Name,
@@ -49,6 +51,7 @@ pub struct Nonce {
     pub variable: usize,
 }
 
+// The completion is claimed to come only after the needed event.
 #[derive(Drop)]
 pub struct Claim {
     pub completion: Signal,
