@@ -1,4 +1,6 @@
 // Bytes written as text: two hexadecimal digits for each byte, upper or lower case, parted by one space.
+#![tactic(auto)]
+
 ghost use Rattle.std.specs.Prelude.{◌≡◌, ◌⊎◌, ◌∷◌, MatchOption};
 ghost use Rattle.hex_text.specs.Hex.{Digit, NoDigit, NoSpace, Pair, Reads, UniqueReading};
 

@@ -1,4 +1,6 @@
 // A sheet's text cut into lines and words, each with its place, the number of the byte at which it begins.
+#![tactic(auto)]
+
 ghost use Rattle.std.specs.Prelude.{◌≡◌, ◌+◌, ◌^◌, ◌<◌, ◌≤◌, length, take, drop};
 ghost use Rattle.std.specs.Str.{bytes_eq};
 ghost use Rattle.lexer.specs.declared.Declined.TheVariants.{Memory};

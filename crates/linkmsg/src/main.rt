@@ -1,4 +1,6 @@
 // linkmsg: tells in words each message that a line of standard input has in hexadecimal, and counts what it read.
+#![tactic(auto)]
+
 use anyhow::anyhow;
 use explain::{Answer, explain};
 use lines::split_line;

@@ -1,4 +1,6 @@
 // Messages: their byte form read, taken apart, built, compared and told in words; and what the enemy can make of them.
+#![tactic(auto)]
+
 ghost use Rattle.std.specs.Prelude.{◌≡◌, ℕ};
 ghost use Rattle.message.specs.Laws.{BuildingSuffices, PartsAreMessages, ReadBack, TellingWords, UniqueReading};
 

@@ -1,4 +1,6 @@
 // Tests of messages: read, taken apart, built, compared and told in words.
+#![tactic(auto)]
+
 #[cfg(test)]
 mod tests {
     use message::*;

@@ -1,4 +1,6 @@
 // rehearsal: reads a sheet from standard input and tells what it says, or its first fault.
+#![tactic(auto)]
+
 use anyhow::anyhow;
 use lexer::Declined;
 use sheet::{Contents, Sheet};

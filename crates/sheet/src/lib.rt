@@ -1,4 +1,6 @@
 // The link sheet and its exact reader.
+#![tactic(auto)]
+
 mod cast;
 mod draft;
 mod grow;

@@ -1,4 +1,6 @@
 // Tests of reading sheets: a sheet that is read, and ways to damage it, each with its fault and the fault's place.
+#![tactic(auto)]
+
 #[cfg(test)]
 mod tests {
     use lexer::*;

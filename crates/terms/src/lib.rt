@@ -1,4 +1,6 @@
 // Names, terms, signals and values: what the words of a sheet's lines are.
+#![tactic(auto)]
+
 mod find;
 mod name;
 mod reader;

@@ -6,7 +6,7 @@ use Rattle.lexer.proofs.Line.from.Goals as goal
 
 pub returns-then-i-words : goal.returns-then-i-words
 returns-then-i-words c =
-    ap words_of (take_rest c.as-slice-words.result.now c.args.i) ∙ ap (λ l. words_of (drop c.args.i l)) c.as-slice-words.ensures.value ∙ sym (drop-map word_of c.args.i _)
+    ap words_of (take_rest c.as_slice-words.result.now c.args.i) ∙ ap (λ l. words_of (drop c.args.i l)) c.as_slice-words.ensures.value ∙ sym (drop-map word_of c.args.i _)
 
 pub returns-else-i-words : goal.returns-else-i-words
-returns-else-i-words c = no_words c.args.self.now c.args.i (omega (arith, c.as-slice-words.ensures.len))
+returns-else-i-words c = no_words c.args.self.now c.args.i (omega (arith, c.as_slice-words.ensures.len))

@@ -3,13 +3,13 @@ use Rattle.message.proofs.Forms.{shorter}
 use Rattle.message.proofs.Whole.{front-message, no_front}
 use Rattle.message.proofs.read.read_front.Goals as goal
 
-pub overflow-sub-window : goal.overflow-sub-window
-overflow-sub-window c = omega (arith, shorter c.in-Some.ensures)
+pub overflow_sub-window : goal.overflow_sub-window
+overflow_sub-window c = omega (arith, shorter c.in-Some.ensures)
 
 pub returns-in-Some : goal.returns-in-Some
 returns-in-Some c =
     let few : c.min.result - 0 ≤ 96 = omega arith in
-    (front-message _ _ few _ _ c.in-Some.ensures c.split-at.ensures.front, sym c.split-at.ensures.by_index.0)
+    (front-message _ _ few _ _ c.in-Some.ensures c.split_at.ensures.front, sym c.split_at.ensures.by_index.0)
 
 pub returns-in-None : goal.returns-in-None
 returns-in-None c front rest (m, w) e =

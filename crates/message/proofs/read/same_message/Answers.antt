@@ -8,7 +8,7 @@ use Rattle.std.proofs.lemmas.Bool.Decides.{Decides-eqb}
 pub returns-then-eq : goal.returns-then-eq
 returns-then-eq c =
     let same = (slice_eq-Decides Decides-eqb _ _ _ c.eq.ensures).0 c.if-eq.true in
-    (λ e. let (m, w) = c.is-message.ensures.0 e in (m, w, subst (λ bytes. Reads bytes m) same w), λ (m, p, q). c.is-message.ensures.1 (m, p))
+    (λ e. let (m, w) = c.is_message.ensures.0 e in (m, w, subst (λ bytes. Reads bytes m) same w), λ (m, p, q). c.is_message.ensures.1 (m, p))
 
 pub returns-else-eq : goal.returns-else-eq
 returns-else-eq c = (

@@ -5,7 +5,7 @@ use Rattle.message.proofs.buffer.Message.append.Goals as goal
 pub returns : goal.returns
 returns c =
     let buffer = c.args.self.now in
-    let copied = c.copy-from-slice.ensures.after in
+    let copied = c.copy_from_slice.ensures.after in
     let within : buffer.len ≤ length buffer.bytes = search rules in (
       tt,
       omega (arith, length-take buffer.len buffer.bytes),
