@@ -3,4 +3,4 @@ use Rattle.linkmsg.proofs.Cuts.{rest-shorter}
 use Rattle.linkmsg.proofs.run.Goals as goal
 
 pub loop-rest-smaller : goal.loop-rest-smaller
-loop-rest-smaller c = rest-shorter _ _ _ c.split-line.ensures (search rules)
+loop-rest-smaller c = rest-shorter _ _ _ c.split_line.ensures (search rules)

@@ -3,13 +3,13 @@ use Rattle.terms.specs.Terms.{read_signal}
 use Rattle.terms.proofs.Naming.{name-short}
 use Rattle.terms.proofs.reader.read_signal.Goals as goal
 
-pub returns-then-not-is-name : goal.returns-then-not-is-name
+pub returns-then-not-is_name : goal.returns-then-not-is_name
 unfolding read_signal
-returns-then-not-is-name c = search rules
+returns-then-not-is_name c = search rules
 
-pub returns-in-err-fields : goal.returns-in-err-fields
+pub returns-in_err-fields : goal.returns-in_err-fields
 unfolding read_signal
-returns-in-err-fields c = search rules
+returns-in_err-fields c = search rules
 
 pub returns : goal.returns
 unfolding read_signal

@@ -10,20 +10,20 @@ pub loop-i-init : goal.loop-i-init
 unfolding read_term
 loop-i-init c = search rules
 
-pub returns-then-is-full : goal.returns-then-is-full
-returns-then-is-full c = search (rules, term-full)
+pub returns-then-is_full : goal.returns-then-is_full
+returns-then-is_full c = search (rules, term-full)
 
-pub returns-in-err-progress : goal.returns-in-err-progress
-returns-in-err-progress c =
-    let p = err_from_is_err_and c.from-residual.result c.from-residual.ensures.1 in
+pub returns-in_err-progress : goal.returns-in_err-progress
+returns-in_err-progress c =
+    let p = err_from_is_err_and c.from_residual.result c.from_residual.ensures.1 in
     rw (p.1, p.2)
-    (term-break c.loop-i.invariant _ c.loop-i-test.true c.if-is-full.ensures progress_of (vec_items {Z = Global}) _ c.in-err-progress.ensures)
+    (term-break c.loop-i.invariant _ c.loop-i-test.true c.if-is_full.ensures progress_of (vec_items {Z = Global}) _ c.in_err-progress.ensures)
 
 pub loop-i-preserved : goal.loop-i-preserved
-loop-i-preserved c = term-more c.loop-i.invariant _ c.loop-i-test.true c.if-is-full.ensures _ c.in-ok-progress.ensures
+loop-i-preserved c = term-more c.loop-i.invariant _ c.loop-i-test.true c.if-is_full.ensures _ c.in_ok-progress.ensures
 
-pub returns-then-not-is-complete : goal.returns-then-not-is-complete
-returns-then-not-is-complete c = search (rules, term-cut)
+pub returns-then-not-is_complete : goal.returns-then-not-is_complete
+returns-then-not-is_complete c = search (rules, term-cut)
 
 pub returns : goal.returns
 returns c = search (rules, term-done)

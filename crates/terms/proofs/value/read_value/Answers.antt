@@ -6,6 +6,6 @@ use Rattle.terms.proofs.value.read_value.Goals as goal
 
 pub returns-in-45 : goal.returns-in-45
 returns-in-45 c =
-    c.read-negative.ensures
+    c.read_negative.ensures
     ∙ ap (λ ds. negative (magnitude ds)) (take_rest c.args.text.now 1)
     ∙ sym (cond-true _ _ _ (eq-eqb (get_or c.args.text.now 0 0) 45 (omega arith)))

@@ -5,8 +5,8 @@ use Rattle.terms.specs.Names.{alphanumeric}
 use Rattle.terms.proofs.Naming.{alphanumeric-step}
 use Rattle.terms.proofs.name.calls.is_alphanumeric.Goals as goal
 
-pub returns-then-not-is-ascii-alphanumeric : goal.returns-then-not-is-ascii-alphanumeric
-returns-then-not-is-ascii-alphanumeric c =
+pub returns-then-not-is_ascii_alphanumeric : goal.returns-then-not-is_ascii_alphanumeric
+returns-then-not-is_ascii_alphanumeric c =
     let e = alphanumeric-step c.args.word.now c.loop-letter.letter-index c.loop-letter-test.true in
     grind (arith, nat_tests, e, c.loop-letter.invariant)
 

@@ -8,7 +8,7 @@ use Rattle.terms.proofs.scope.Scope.is_agent.Goals as goal
 
 pub returns-then-i-self : goal.returns-then-i-self
 returns-then-i-self c =
-    c.is-agent-sort.ensures
+    c.is_agent_sort.ensures
     ∙ ap agent_variable (sym (nth-model variable_of c.args.self.now.variables.now c.in-Variable.i _ c.if-i-self.true))
     ∙ ap (agent_field (scope_of c.args.self.now)) (sym c.in-Variable.is)
 
