@@ -7,12 +7,12 @@ use Rattle.sheet.proofs.draft.says_all.Goals as goal
 
 pub returns-then-not-said : goal.returns-then-not-said
 returns-then-not-said c =
-    let said = sym c.if-not-said.true ∙ sym (ok-value c.in-ok-said.ensures) in
+    let said = sym c.if-not-said.true ∙ sym (ok-value c.in_ok-said.ensures) in
     ap Ok (c.loop-i.invariant ∙ says-step (line_of c.args.line.now) c.args.numbers.now c.loop-i.i _ c.loop-i-test.true said)
 
 pub loop-i-preserved : goal.loop-i-preserved
 loop-i-preserved c =
-    let said = sym c.if-not-said.false ∙ sym (ok-value c.in-ok-said.ensures) in
+    let said = sym c.if-not-said.false ∙ sym (ok-value c.in_ok-said.ensures) in
     c.loop-i.invariant ∙ says-step (line_of c.args.line.now) c.args.numbers.now c.loop-i.i _ c.loop-i-test.true said
 
 pub returns : goal.returns

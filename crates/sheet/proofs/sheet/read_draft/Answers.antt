@@ -10,15 +10,15 @@ use Rattle.sheet.proofs.sheet.read_draft.Goals as goal
 pub loop-i-init : goal.loop-i-init
 loop-i-init c = ap (λ d. lines_from d 1 (lines_of c.args.lines.now)) (sym c.new-draft.ensures)
 
-pub returns-in-err-read-line : goal.returns-in-err-read-line
-returns-in-err-read-line c =
-    let p = err_from_is_err_and c.from-residual.result c.from-residual.ensures.1 in
+pub returns-in_err-read_line : goal.returns-in_err-read_line
+returns-in_err-read_line c =
+    let p = err_from_is_err_and c.from_residual.result c.from_residual.ensures.1 in
     rw (p.1, p.2)
-    (line-break c.args.lines.now c.loop-i.i c.loop-i.draft c.loop-i.invariant c.index-lines-i.result c.loop-i-test.true c.index-lines-i.is c.read-line.new.self c.in-err-read-line.field-0.0 c.in-err-read-line.ensures)
+    (line-break c.args.lines.now c.loop-i.i c.loop-i.draft c.loop-i.invariant c.index-lines-i.result c.loop-i-test.true c.index-lines-i.is c.read_line.new.self c.in_err-read_line.field-0.0 c.in_err-read_line.ensures)
 
 pub loop-i-preserved : goal.loop-i-preserved
 loop-i-preserved c =
-    line-more c.args.lines.now c.loop-i.i c.loop-i.draft c.loop-i.invariant c.index-lines-i.result c.loop-i-test.true c.index-lines-i.is c.read-line.new.self c.in-ok-read-line.ensures
+    line-more c.args.lines.now c.loop-i.i c.loop-i.draft c.loop-i.invariant c.index-lines-i.result c.loop-i-test.true c.index-lines-i.is c.read_line.new.self c.in_ok-read_line.ensures
 
 pub returns : goal.returns
 returns c = c.loop-i.invariant ∙ at_drop_all (λ l. lines_from (draft_of c.loop-i.draft) (c.loop-i.i + 1) (lines_of l)) c.args.lines.now c.loop-i.i c.loop-i-test.false

@@ -8,5 +8,5 @@ pub returns : goal.returns
 unfolding cast_of
 returns c =
     let pushed = map_push agent_of (vec_items c.args.self.now.agents) c.args.agent in
-    let items = c.in-ok-push.ensures.items in
+    let items = c.in_ok-push.ensures.items in
     cc

@@ -8,5 +8,5 @@ pub returns : goal.returns
 unfolding cast_of
 returns c =
     let pushed = map_push role_of (vec_items c.args.self.now.roles) c.args.role in
-    let items = c.in-ok-push.ensures.items in
+    let items = c.in_ok-push.ensures.items in
     cc

@@ -8,5 +8,5 @@ pub returns : goal.returns
 unfolding cast_of
 returns c =
     let pushed = map_push letters (vec_items c.args.self.now.texts) c.args.text in
-    let items = c.in-ok-push.ensures.items in
+    let items = c.in_ok-push.ensures.items in
     cc

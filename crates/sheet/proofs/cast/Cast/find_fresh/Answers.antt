@@ -12,6 +12,6 @@ returns-then-role-len c = past-items role_of c.args.self.now.roles (λ r. fresh_
 pub returns : goal.returns
 unfolding cast_of
 returns c =
-    c.find-fresh-among.ensures
-    ∙ ap (λ vs. fresh_among (map variable_of vs) c.args.word.now) c.as-slice.ensures.value
+    c.find_fresh_among.ensures
+    ∙ ap (λ vs. fresh_among (map variable_of vs) c.args.word.now) c.as_slice.ensures.value
     ∙ at_item role_of c.args.self.now.roles (λ r. fresh_in r c.args.word.now) c.len.ensures c.if-role-len.false c.index.ensures

@@ -3,10 +3,10 @@ use Rattle.sheet.specs.Drafts.{new_name}
 use Rattle.sheet.specs.Kept.{cast_of}
 use Rattle.sheet.proofs.cast.Cast.is_new.Goals as goal
 
-pub returns-after-is-taken : goal.returns-after-is-taken
+pub returns-after-is_taken : goal.returns-after-is_taken
 unfolding cast_of new_name
-returns-after-is-taken c = search rules
+returns-after-is_taken c = search rules
 
-pub returns-else-is-name : goal.returns-else-is-name
+pub returns-else-is_name : goal.returns-else-is_name
 unfolding cast_of new_name
-returns-else-is-name c = search rules
+returns-else-is_name c = search rules

@@ -8,7 +8,7 @@ use Rattle.sheet.proofs.cast.Cast.may_play.Goals as goal
 
 pub returns-then-role-len : goal.returns-then-role-len
 unfolding cast_of
-returns-then-role-len c = c.is-played-by.ensures ∙ at_item role_of c.args.self.now.roles (may_play (cast_of c.args.self.now) c.args.agent) c.len.ensures c.if-role-len.true c.index.ensures
+returns-then-role-len c = c.is_played_by.ensures ∙ at_item role_of c.args.self.now.roles (may_play (cast_of c.args.self.now) c.args.agent) c.len.ensures c.if-role-len.true c.index.ensures
 
 pub returns-else-role-len : goal.returns-else-role-len
 unfolding cast_of

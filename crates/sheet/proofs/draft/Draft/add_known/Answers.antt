@@ -6,5 +6,5 @@ use Rattle.sheet.proofs.draft.Draft.add_known.Goals as goal
 pub returns : goal.returns
 returns c =
     let pushed = map_push nodes_of (vec_items c.args.self.now.known) c.args.term in
-    let items = c.in-ok-push.ensures.items in
+    let items = c.in_ok-push.ensures.items in
     cc

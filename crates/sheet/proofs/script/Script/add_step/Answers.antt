@@ -8,5 +8,5 @@ pub returns : goal.returns
 unfolding script_of
 returns c =
     let pushed = map_push step_of (vec_items c.args.self.now.steps) c.args.step in
-    let items = c.in-ok-push.ensures.items in
+    let items = c.in_ok-push.ensures.items in
     cc

@@ -8,6 +8,6 @@ pub returns : goal.returns
 unfolding script_of
 returns c =
     let pushed = map_push variable_of (vec_items c.args.self.now.variables) c.args.variable in
-    let items = c.in-ok-push.ensures.items in
-    let usages = c.in-ok-push-2.ensures.items in
+    let items = c.in_ok-push.ensures.items in
+    let usages = c.in_ok-push-2.ensures.items in
     cc

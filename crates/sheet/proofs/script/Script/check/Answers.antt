@@ -3,4 +3,4 @@ use Rattle.sheet.proofs.script.Script.check.Goals as goal
 
 pub returns : goal.returns
 unfolding script_of
-returns c = rw (c.as-slice.ensures.value, c.as-slice-2.ensures.value) at c.check-usages.ensures
+returns c = rw (c.as_slice.ensures.value, c.as_slice-2.ensures.value) at c.check_usages.ensures

@@ -3,8 +3,8 @@ use Rattle.sheet.specs.Drafts.{new_variable}
 use Rattle.terms.proofs.Naming.{name-whole}
 use Rattle.sheet.proofs.script.Script.new_name.Goals as goal
 
-pub returns-then-is-new : goal.returns-then-is-new
+pub returns-then-is_new : goal.returns-then-is_new
 unfolding new_variable
-returns-then-is-new c =
-    let new = sym c.if-is-new.ensures in
+returns-then-is_new c =
+    let new = sym c.if-is_new.ensures in
     (new, c.new.ensures ∙ name-whole c.args.word.now _ new)

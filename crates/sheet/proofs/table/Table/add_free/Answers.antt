@@ -8,6 +8,6 @@ pub returns : goal.returns
 unfolding table_of
 returns c =
     let pushed = map_push variable_of (vec_items c.args.self.now.free) c.args.variable in
-    let items = c.in-ok-push.ensures.items in
-    let usages = c.in-ok-push-2.ensures.items in
+    let items = c.in_ok-push.ensures.items in
+    let usages = c.in_ok-push-2.ensures.items in
     cc

@@ -8,5 +8,5 @@ pub returns : goal.returns
 unfolding table_of
 returns c =
     let pushed = map_push (ranked_of (λ n. n)) (vec_items c.args.self.now.atoms) c.args.ranked in
-    let items = c.in-ok-push.ensures.items in
+    let items = c.in_ok-push.ensures.items in
     cc
