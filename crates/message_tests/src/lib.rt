@@ -74,7 +74,10 @@ mod tests {
         assert!(rt; !is_message(bytes), "{text}");
         assert!(rt; take_apart(bytes).is_err(), "{text}");
         assert!(rt; read_front(bytes).is_err(), "{text}");
-        assert!(rt; matches!(words(heap, bytes), Err(WordsError::NoMessage)), "{text}");
+        assert!(rt;
+            matches!(words(heap, bytes), Err(WordsError::NoMessage)),
+            "{text}"
+        );
     }
 
     #[test]
