@@ -1,13 +1,12 @@
 -- A message taken apart one level, by its letter.
-use Rattle.std.proofs.Common.{◌≡◌, ℕ, ◌+◌, ◌-◌, ◌*◌, ◌<◌, ◌≤◌, List, [], ◌∷◌, ◌++◌, length, get_or, take, Ok, Err, sym, refl, ap, ◌∙◌, subst, append-nil, arith, length-append, take_all, take_at}
+use Rattle.std.proofs.Common.{◌≡◌, ℕ, ◌+◌, ◌-◌, ◌*◌, ◌<◌, ◌≤◌, List, [], ◌∷◌, ◌++◌, length, get_or, take, Ok, sym, ap, ◌∙◌, subst, append-nil, arith, length-append, take_all, take_at}
 use Rattle.std.specs.List.{between}
-use Rattle.message.specs.declared.read.Parts.{Parts}
 use Rattle.message.specs.declared.read.Parts.TheVariants.{Agent, Nonce, Text, Key, Pair, Seal}
 use Rattle.message.specs.Laws.{PartsAreMessages}
 use Rattle.message.specs.Message.{shared, Msg, agent, nonce, text, key, pair, seal, two_bytes, key_bytes, wire, Fits, Reads, IsMessage}
 use Rattle.message.specs.Message as tree
 use Rattle.message.specs.Reading.{Begins, Splits}
-use Rattle.message.proofs.Forms.{at-agent, at-nonce, at-text, at_key, at_pair, at-seal, halves, one-rest}
+use Rattle.message.proofs.Forms.{at-agent, at-nonce, at-text, at_key, at_pair, at-seal, halves}
 use Rattle.message.proofs.Shapes.{unique}
 use Rattle.message.proofs.Whole.{begins}
 

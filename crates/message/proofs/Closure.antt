@@ -1,6 +1,6 @@
 -- What is built from a set that taking apart does not leave is all that is generated from it.
-use Rattle.std.proofs.Common.{◌≡◌, ◌⊎◌, inl, inr, ⊎_elim}
-use Rattle.message.specs.Message.{Key, Msg, agent, nonce, text, key, pair, seal}
+use Rattle.std.proofs.Common.{◌⊎◌, inl, inr, ⊎_elim}
+use Rattle.message.specs.Message.{Msg, agent, nonce, text, key, pair, seal}
 use Rattle.message.specs.Generates.{Generates, known, paired, left, right, sealed, opened, Builds, member, pairing, sealing, Closed}
 
 module _ (S : Msg → Type 0) where

@@ -1,8 +1,8 @@
 -- What a form at the front of some bytes looks like, from its first byte on.
-use Rattle.std.proofs.Common.{◌≡◌, ℕ, ◌+◌, ◌*◌, ◌/◌, ◌%◌, ◌<◌, ◌≤◌, ◌≢◌, List, [], ◌∷◌, ◌++◌, length, get_or, Some, None, Option, sym, refl, ap, ◌∙◌, subst, append_assoc, append-nil, arith, length-append, take_all, Bor}
+use Rattle.std.proofs.Common.{◌≡◌, ℕ, ◌+◌, ◌*◌, ◌/◌, ◌%◌, ◌<◌, ◌≤◌, ◌≢◌, List, [], ◌∷◌, ◌++◌, length, get_or, Some, None, Option, sym, refl, ap, ◌∙◌, subst, append_assoc, arith, length-append, take_all, Bor}
 use Rattle.std.specs.List.{between}
 use Rattle.std.proofs.lemmas.Slice.{first_rest}
-use Rattle.message.specs.Message.{shared, Msg, agent, nonce, text, key, pair, seal, two_bytes, wire, Fits, Reads, IsMessage}
+use Rattle.message.specs.Message.{shared, Msg, agent, nonce, text, key, pair, seal, two_bytes, wire, Fits}
 use Rattle.message.specs.Reading.{Begins, Leaves}
 use Rattle.message.proofs.Shapes.{Lettered, lettered, tail-is, unique, wire-is, tag, body}
 

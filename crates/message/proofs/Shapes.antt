@@ -1,6 +1,6 @@
 -- A message is known by its bytes, and by where they end.
 use Rattle.std.proofs.Common.{◌≡◌, ℕ, ◌/◌, ◌%◌, eqb, List, [], ◌∷◌, ◌++◌, MatchBool, sym, refl, ap, ◌∙◌, subst, append_assoc, arith}
-use Rattle.message.specs.Message.{Key, shared, Msg, agent, nonce, text, key, pair, seal, two_bytes, key_bytes, wire}
+use Rattle.message.specs.Message.{shared, Msg, agent, nonce, text, key, pair, seal, two_bytes, key_bytes, wire}
 
 -- the first byte, and the others
 abbrev pub tag : Msg → ℕ

@@ -1,5 +1,5 @@
 -- The words of a message from those of its parts.
-use Rattle.std.proofs.Common.{◌≡◌, ℕ, ◌<◌, List, [], ◌∷◌, ◌++◌, length, get_or, Ok, Err, codes, decimal, sym, refl, ap, ◌∙◌, subst, append_assoc, arith, length-append, Bor}
+use Rattle.std.proofs.Common.{◌≡◌, ℕ, ◌<◌, List, ◌++◌, length, get_or, Ok, codes, decimal, sym, ap, ◌∙◌, subst, append_assoc, arith, length-append, Bor}
 use Rattle.message.specs.declared.read.Parts.{Parts}
 use Rattle.message.specs.declared.read.Parts.TheVariants.{Pair, Seal}
 use Rattle.message.specs.declared.tell.WordsError.{WordsError}
@@ -9,7 +9,6 @@ use Rattle.message.specs.Reading.{Splits}
 use Rattle.message.specs.Telling.{Refuses}
 use Rattle.message.specs.Words.{owners, words}
 use Rattle.message.proofs.Apart.{Halves, Opens}
-use Rattle.message.proofs.Forms.{nonempty}
 use Rattle.message.proofs.Shapes.{same-tree}
 
 -- after is before with the words of the message behind it

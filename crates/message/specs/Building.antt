@@ -1,5 +1,5 @@
 -- What the buffer in which a message is built holds, and what its constructors answer and leave.
-use Rattle.std.specs.Prelude.{◌≡◌, ℕ, ◌+◌, ◌<◌, ◌≤◌, List, [], ◌∷◌, ◌++◌, length, take, Ok, Err, Result}
+use Rattle.std.specs.Prelude.{◌≡◌, ℕ, ◌+◌, ◌<◌, ◌≤◌, List, ◌++◌, length, take, Ok, Err, Result}
 use Rattle.message.specs.declared.NotMessage.{NotMessage}
 use Rattle.message.specs.declared.buffer.Message.{Message}
 

@@ -1,5 +1,4 @@
 -- What a message is, and the bytes that stand for it.
-use mathlib.Core.HLevel.{Discrete}
 use Rattle.std.specs.Prelude.{◌≡◌, ℕ, ◌/◌, ◌%◌, ◌<◌, ◌≤◌, min, max, List, [], ◌∷◌, ◌++◌, length}
 use Rattle.message.specs.declared.Kind.{Kind}
 use Rattle.message.specs.declared.Kind.TheVariants.{Agent, Nonce, Text}

@@ -1,5 +1,5 @@
 -- A message in words: prefix order, decimal numbers, single spaces.
-use Rattle.std.specs.Prelude.{ℕ, List, [], ◌∷◌, ◌++◌, codes, decimal}
+use Rattle.std.specs.Prelude.{ℕ, List, ◌++◌, codes, decimal}
 use Rattle.message.specs.Message.{Key, shared, Msg, agent, nonce, text, key, pair, seal}
 
 -- the two agents of a key

@@ -1,17 +1,15 @@
 -- A sheet's lines, one after another.
-use Rattle.std.proofs.Common.{◌≡◌, ℕ, ◌+◌, ◌<◌, List, ◌∷◌, map, length, get_or, drop, Ok, Err, Result, sym, refl, ap, ◌∙◌}
+use Rattle.std.proofs.Common.{◌≡◌, ℕ, ◌+◌, ◌<◌, List, length, get_or, drop, Ok, Err, sym, ap, ◌∙◌}
 use Rattle.std.proofs.lemmas.List.{at_drop_more}
 use Rattle.lexer.specs.declared.Declined.{Declined}
 use Rattle.lexer.specs.declared.Declined.TheVariants as declined
-use Rattle.lexer.specs.declared.Fault.{Fault}
 use Rattle.lexer.specs.declared.Line.{Line}
-use Rattle.lexer.specs.Text.{LineAt, line_of, lines_of}
+use Rattle.lexer.specs.Text.{line_of, lines_of}
 use Rattle.sheet.specs.declared.draft.Draft.{Draft}
 use Rattle.sheet.specs.Kept.{draft_of}
 use Rattle.terms.specs.Outcomes.{Becomes, Reads}
 use Rattle.sheet.specs.Sections.{blank, in_part, lines_from}
 use Rattle.terms.specs.Terms.{and_then}
-use Rattle.sheet.specs.Drafts as drafts
 
 module _ (ls : List Line) (i : ℕ) (d : Draft) (h : lines_from blank 1 (lines_of ls) ≡ lines_from (draft_of d) (i + 1) (lines_of (drop i ls))) (l : Line) (lt : i < length ls) (is : l ≡ get_or ls i l) where
   -- the next line, and then the others

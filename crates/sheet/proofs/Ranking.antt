@@ -1,13 +1,12 @@
 -- Loops over ranked lines, over two lists of atoms, and over the numbers of a line.
-use Rattle.std.proofs.Common.{◌≡◌, ℕ, suc, ◌+◌, ◌<◌, ◌≤◌, Bool, true, false, ◌&&◌, ◌||◌, List, [], ◌∷◌, map, length, get_or, drop, Ok, decimal, Result, sym, refl, ap, ◌∙◌, arith}
-use Rattle.std.proofs.lemmas.List.{at_drop_more, at_drop_all}
+use Rattle.std.proofs.Common.{◌≡◌, ℕ, ◌+◌, ◌<◌, Bool, ◌&&◌, ◌||◌, List, map, length, get_or, drop, Ok, decimal, Result, sym, ap, ◌∙◌}
+use Rattle.std.proofs.lemmas.List.{at_drop_more}
 use Rattle.lexer.specs.Text.{LineAt, is}
 use Rattle.terms.specs.declared.stored.Ranked.{Ranked}
 use Rattle.terms.specs.declared.stored.Signal.{Signal}
-use Rattle.terms.specs.declared.term.Field.{Field}
 use Rattle.terms.specs.declared.term.Node.{Node}
 use Rattle.sheet.specs.Reading.{atom_ranked, says_all, signal_ranked}
-use Rattle.terms.specs.Same.{same_atom, same_field, same_fields, same_signal}
+use Rattle.terms.specs.Same.{same_atom, same_signal}
 use Rattle.terms.specs.Sheet as model
 use Rattle.terms.specs.Stored.{ranked_of, signal_of}
 

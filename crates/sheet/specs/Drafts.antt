@@ -1,17 +1,10 @@
 -- A sheet as far as it is read: what there is so far, which names are taken, where variables first stand, and where lines lie.
-use Rattle.std.specs.Prelude.{ℕ, ◌+◌, Bool, true, false, cond, not, ◌&&◌, ◌||◌, List, [], ◌∷◌, ◌++◌, map, length, is_some, Some, None, Ok, Err, Option, Result}
+use Rattle.std.specs.Prelude.{ℕ, Bool, true, false, not, ◌&&◌, ◌||◌, List, [], ◌∷◌, Option}
 use Rattle.std.specs.Str.{bytes_eq}
-use Rattle.message.specs.declared.Kind.TheVariants as kind
-use Rattle.lexer.specs.declared.Fault.{Fault}
-use Rattle.lexer.specs.declared.Rule.TheVariants as rule
-use Rattle.lexer.specs.Text.{WordAt}
-use Rattle.terms.specs.declared.usages.First.{First}
 use Rattle.sheet.specs.declared.draft.Part.{Part}
 use Rattle.terms.specs.declared.usages.Usage.{Usage}
-use Rattle.terms.specs.declared.term.Sort.{Sort}
-use Rattle.terms.specs.declared.term.Sort.TheVariants.{Fresh, Plain}
 use Rattle.terms.specs.declared.term.Node.{Node}
-use Rattle.terms.specs.Names.{index_of, is_name}
+use Rattle.terms.specs.Names.{is_name}
 use Rattle.terms.specs.Sheet.{Agent, Claim, Nonce, Ranked, Role, Signal, Step, Variable}
 use Rattle.terms.specs.Terms.{Scope, agent_names, has, nonce_names, role_names, variable_names}
 

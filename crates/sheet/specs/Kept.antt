@@ -1,5 +1,5 @@
 -- What the code's draft of a sheet stands for.
-use Rattle.std.specs.Prelude.{List, map, vec_items, Option}
+use Rattle.std.specs.Prelude.{vec_items, Option}
 use Rattle.sheet.specs.declared.cast.Cast.{Cast}
 use Rattle.sheet.specs.declared.cast.Title.{Title}
 use Rattle.std.specs.Option.{option_map}

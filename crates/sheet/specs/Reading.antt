@@ -1,29 +1,25 @@
 -- Reading a sheet, line by line: what each line adds, or the first rule that it breaks and where.
-use Rattle.std.specs.Prelude.{ℕ, ◌+◌, ◌-◌, Bool, true, false, cond, not, ◌&&◌, ◌||◌, List, [], ◌∷◌, ◌++◌, map, length, take, drop, is_some, Some, None, Ok, Err, codes, decimal, Option, Result, ◌==◌, nat_le, nat_lt}
+use Rattle.std.specs.Prelude.{ℕ, ◌+◌, ◌-◌, Bool, true, false, cond, not, ◌&&◌, ◌||◌, List, [], ◌∷◌, map, length, take, drop, is_some, Some, None, Ok, codes, decimal, Option, Result, ◌==◌, nat_le, nat_lt}
 use Rattle.std.specs.List.{slice_get}
-use Rattle.std.specs.Option.{option_map}
 use Rattle.std.specs.Str.{bytes_eq}
 use Rattle.message.specs.declared.Kind.{Kind}
 use Rattle.message.specs.declared.Kind.TheVariants as kind
 use Rattle.lexer.specs.declared.Fault.{Fault}
 use Rattle.lexer.specs.declared.Rule.{Rule}
 use Rattle.lexer.specs.declared.Rule.TheVariants as rule
-use Rattle.lexer.specs.Text.{LineAt, WordAt, is, is_only, lexed, word_at}
-use Rattle.sheet.specs.declared.draft.Part.{Part}
-use Rattle.sheet.specs.declared.draft.Part.TheVariants as part
-use Rattle.terms.specs.declared.usages.Usage.{Usage}
+use Rattle.lexer.specs.Text.{LineAt, is, word_at}
 use Rattle.terms.specs.declared.term.Field.{Field}
 use Rattle.terms.specs.declared.term.Field.TheVariants.{Player, Variable, Named}
 use Rattle.terms.specs.declared.term.Node.{Node}
 use Rattle.terms.specs.declared.term.Node.TheVariants as node
 use Rattle.terms.specs.declared.term.Sort.{Sort}
 use Rattle.terms.specs.declared.term.Sort.TheVariants.{Fresh, Plain}
-use Rattle.terms.specs.Names.{index_of, is_name}
+use Rattle.terms.specs.Names.{index_of}
 use Rattle.terms.specs.Sheet as model
 use Rattle.terms.specs.Same.{same_atom, same_signal}
-use Rattle.terms.specs.Terms.{Scope, agent_names, and_then, fault, field_of, first_agent, or_fault, passing, read_signal, read_term, second_agent, value_of, variable_names}
+use Rattle.terms.specs.Terms.{agent_names, and_then, fault, field_of, first_agent, or_fault, passing, read_signal, read_term, second_agent, value_of, variable_names}
 use Rattle.sheet.specs.Drafts.{Cast, Draft, Script, Table, Title, free_scope, named_scope, new_free, new_name, new_variable, script_scope}
-use Rattle.terms.specs.Usages.{check_usages, note_all}
+use Rattle.terms.specs.Usages.{check_usages}
 use Rattle.terms.specs.Terms.{role_names}
 
 -- a test that has to pass

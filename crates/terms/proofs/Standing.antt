@@ -1,9 +1,7 @@
 -- Where variables first stand, one word and one variable at a time.
-use Rattle.std.proofs.Common.{◌≡◌, ℕ, ◌+◌, ◌<◌, ◌≤◌, Bool, cond, List, [], ◌∷◌, ◌++◌, map, length, get_or, take, drop, set, Some, Ok, Err, Result, sym, refl, ap, ◌∙◌, arith}
+use Rattle.std.proofs.Common.{◌≡◌, ℕ, ◌+◌, ◌<◌, ◌≤◌, Bool, cond, List, [], ◌∷◌, ◌++◌, map, length, get_or, take, drop, set, Some, Ok, Result, sym, refl, ap, ◌∙◌, arith}
 use Rattle.std.proofs.lemmas.List.{append_assoc, append-nil, at_drop_more, drop_all, drop_more, drop-set-lt, take_all, take-append-drop, take_more_set}
 use Rattle.std.specs.Str.{bytes_eq}
-use Rattle.lexer.specs.declared.Declined.{Declined}
-use Rattle.lexer.specs.declared.Declined.TheVariants as declined
 use Rattle.lexer.specs.declared.Fault.{Fault}
 use Rattle.lexer.specs.declared.Word.{Word}
 use Rattle.lexer.specs.Text.{WordAt, words_of}
@@ -11,7 +9,6 @@ use Rattle.terms.specs.declared.usages.Usage.{Usage}
 use Rattle.terms.specs.declared.stored.Variable.{Variable}
 use Rattle.terms.specs.Usages.{check_first, check_usages, note_all, noted, place_of}
 use Rattle.terms.specs.Names.{letters}
-use Rattle.terms.specs.Outcomes.{Reads}
 use Rattle.terms.specs.Sheet as model
 use Rattle.terms.specs.Stored.{variable_of}
 use Rattle.terms.specs.Terms.{and_then}

@@ -1,9 +1,7 @@
 -- Reading words one by one: what is read so far, carried on over the rest, is the whole reading.
-use Rattle.std.proofs.Common.{◌≡◌, ℕ, ◌+◌, ◌-◌, ◌<◌, ◌≤◌, Bool, true, false, cond, ◌&&◌, ◌||◌, eqb, leb, List, [], ◌∷◌, ◌++◌, length, get_or, take, drop, Some, None, Ok, Err, Option, Result, sym, refl, ap, ◌∙◌, arith}
-use Rattle.std.proofs.lemmas.List.{at_drop_more, at_drop_all, take_all}
-use Rattle.std.proofs.lemmas.Bool.Decides.{nat_tests}
+use Rattle.std.proofs.Common.{◌≡◌, ℕ, ◌+◌, ◌-◌, ◌<◌, ◌≤◌, Bool, true, false, cond, ◌||◌, eqb, List, [], ◌∷◌, ◌++◌, length, get_or, drop, Some, None, Ok, Err, Option, Result, sym, refl, ap, ◌∙◌, arith}
+use Rattle.std.proofs.lemmas.List.{at_drop_more, at_drop_all}
 use Rattle.lexer.specs.declared.Declined.{Declined}
-use Rattle.lexer.specs.declared.Declined.TheVariants as declined
 use Rattle.lexer.specs.declared.Fault.{Fault}
 use Rattle.lexer.specs.declared.Rule.{Rule}
 use Rattle.lexer.specs.declared.Rule.TheVariants as rule
@@ -12,7 +10,6 @@ use Rattle.lexer.specs.Text.{WordAt, word_of, words_of}
 use Rattle.terms.specs.declared.term.Expect.{Expect}
 use Rattle.terms.specs.declared.term.Field.{Field}
 use Rattle.terms.specs.declared.term.Node.{Node}
-use Rattle.terms.specs.Names.{alphanumeric, begins_with_letter, is_name}
 use Rattle.terms.specs.Outcomes.{Reads, asked}
 use Rattle.terms.proofs.Breaks.{reads-break}
 use Rattle.terms.specs.Terms.{Progress, Scope, and_then, complete, fault, field_of, fields_from, or_fault, read_term, term_from, word_on}

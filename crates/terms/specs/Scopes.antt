@@ -1,5 +1,5 @@
 -- What the code's scope, and a term that it has begun to read, stand for.
-use Rattle.std.specs.Prelude.{List, map, vec_items}
+use Rattle.std.specs.Prelude.{map, vec_items}
 use Rattle.terms.specs.declared.scope.Scope.{Scope}
 use Rattle.terms.specs.declared.reader.Progress.{Progress}
 use Rattle.terms.specs.Names.{letters}

@@ -1,9 +1,7 @@
 -- The link sheet: who takes part, their scripts, what the enemy knows beforehand, the claim, and the table of ranks.
-use Rattle.std.specs.Prelude.{ℕ, Bool, true, false, List, [], ◌∷◌, ◌++◌, map, ℤ, Some, None, Option}
-use Rattle.message.specs.declared.Kind.{Kind}
+use Rattle.std.specs.Prelude.{ℕ, Bool, List, ℤ, Option}
 use Rattle.terms.specs.declared.term.Field.{Field}
 use Rattle.terms.specs.declared.term.Node.{Node}
-use Rattle.terms.specs.declared.term.Node.TheVariants as node
 use Rattle.terms.specs.declared.term.Sort.{Sort}
 
 -- An event as a script or a line writes it: a signal word, and atoms in order.

@@ -1,5 +1,5 @@
 -- What the code's records stand for.
-use Rattle.std.specs.Prelude.{ℕ, List, map, vec_items, Vec}
+use Rattle.std.specs.Prelude.{List, map, vec_items, Vec}
 use Rattle.std.specs.declared.alloc.Global.{Global}
 use Rattle.terms.specs.declared.stored.Agent.{Agent}
 use Rattle.terms.specs.declared.stored.Claim.{Claim}

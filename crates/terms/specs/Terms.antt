@@ -9,7 +9,7 @@ use Rattle.message.specs.declared.Kind.TheVariants as kind
 use Rattle.lexer.specs.declared.Fault.{Fault}
 use Rattle.lexer.specs.declared.Rule.{Rule}
 use Rattle.lexer.specs.declared.Rule.TheVariants as rule
-use Rattle.lexer.specs.Text.{LineAt, WordAt}
+use Rattle.lexer.specs.Text.{WordAt}
 use Rattle.terms.specs.declared.term.Expect.{Expect}
 use Rattle.terms.specs.declared.term.Expect.TheVariants as expect
 use Rattle.terms.specs.declared.term.Field.{Field}

@@ -1,4 +1,4 @@
-use Rattle.std.proofs.Common.{◌+◌, ◌-◌, ◌≤◌, length, vec_items}
+use Rattle.std.proofs.Common.{◌+◌, ◌-◌, length, vec_items}
 use Rattle.lexer.proofs.Pieces.{WordsSofar}
 use Rattle.lexer.proofs.read_words.Given as goal
 

@@ -1,4 +1,4 @@
-use Rattle.std.proofs.Common.{length, drop, sym, ap, ◌∙◌, arith}
+use Rattle.std.proofs.Common.{drop, sym, ap, ◌∙◌, arith}
 use Rattle.lexer.specs.Text.{word_of, words_of}
 use Rattle.std.proofs.lemmas.List.{take_rest, drop-map}
 use Rattle.lexer.proofs.Lines.{no_words}

@@ -1,4 +1,4 @@
-use Rattle.std.proofs.Common.{◌≡◌, ◌-◌, ◌≤◌, length, take, sym, ap, ◌∙◌, arith}
+use Rattle.std.proofs.Common.{◌≡◌, ◌-◌, take, sym, ap, ◌∙◌, arith}
 use lib.ListN.{length-map}
 use Rattle.lexer.specs.Text.{word_of, words_of}
 use Rattle.std.proofs.lemmas.List.{take_all, take-map}

@@ -1,4 +1,4 @@
-use Rattle.std.proofs.Common.{◌<◌, ◌≤◌, length, get_or, refl, ap, ⊎_elim, arith, rules, ltb-false, ltb-true}
+use Rattle.std.proofs.Common.{length, get_or, refl, ap, ⊎_elim, arith, rules, ltb-false, ltb-true}
 use Rattle.std.proofs.lemmas.Slice.{first_rest}
 use Rattle.message.specs.Message.{nonce, text}
 use Rattle.message.proofs.Forms.{tagged, first_two, keyed, agent-front, number-front, key-front, at-agent, at-nonce, at-text, at_key, at-seal, halves, at_other, at-empty, pair-leaves, seal-leaves, shorter}

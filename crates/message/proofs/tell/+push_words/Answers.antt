@@ -1,7 +1,5 @@
 use Rattle.std.proofs.Common.{arith}
-use Rattle.message.specs.declared.read.Parts.TheVariants.{Pair, Seal}
-use Rattle.message.proofs.Apart.{whole_parts}
-use Rattle.message.proofs.Spoken.{halved, opened, first-shorter, second-shorter, pair-told, seal-told, refused-part}
+use Rattle.message.proofs.Spoken.{halved, opened, first-shorter, second-shorter, pair-told, seal-told}
 use Rattle.message.proofs.tell.+push_words.Goals as goal
 
 pub push_words-requires : goal.push_words-requires

@@ -1,4 +1,4 @@
-use Rattle.std.proofs.Common.{◌≡◌, ◌+◌, Bool, drop}
+use Rattle.std.proofs.Common.{◌≡◌, ◌+◌, drop}
 use Rattle.lexer.specs.Text.{line_of}
 use Rattle.sheet.specs.Reading.{says_all}
 use Rattle.sheet.proofs.draft.says_all.Given as goal

@@ -1,5 +1,4 @@
 use Rattle.std.proofs.Common.{sym}
-use Rattle.terms.specs.Names.{index_of}
 use Rattle.terms.proofs.Finding.{further-none, none_found, found_here, not-here}
 use Rattle.terms.proofs.find.find.Goals as goal
 

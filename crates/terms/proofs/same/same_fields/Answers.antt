@@ -1,6 +1,4 @@
-use Rattle.std.proofs.Common.{length, drop, sym, ◌∙◌, arith}
-use Rattle.std.proofs.lemmas.List.{at_drop_all}
-use Rattle.terms.specs.Same.{same_fields}
+use Rattle.std.proofs.Common.{sym, ◌∙◌, arith}
 use Rattle.terms.proofs.Fields.{fields-apart, fields-step, fields-end}
 use Rattle.terms.proofs.same.same_fields.Goals as goal
 

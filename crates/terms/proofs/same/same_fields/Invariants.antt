@@ -1,4 +1,4 @@
-use Rattle.std.proofs.Common.{◌≡◌, length, drop}
+use Rattle.std.proofs.Common.{◌≡◌, drop}
 use Rattle.terms.specs.Same.{same_fields}
 use Rattle.terms.proofs.same.same_fields.Given as goal
 

@@ -1,4 +1,4 @@
-use Rattle.std.proofs.Common.{◌≡◌, ◌≤◌, ◌++◌, length, take, ap, ◌∙◌, arith, length-take, rules}
+use Rattle.std.proofs.Common.{◌≤◌, ◌++◌, length, take, ap, ◌∙◌, arith, length-take, rules}
 use Rattle.std.proofs.lemmas.Slice.{take-put_mid}
 use Rattle.message.proofs.buffer.Message.append.Goals as goal
 
