@@ -1,3 +1,1 @@
-pub mod Casts
-pub mod Ranking
 pub mod Lining

@@ -1,4 +1,2 @@
-pub mod Drafts
-pub mod Reading
+pub mod Sheets
 pub mod Kept
-pub mod Sections

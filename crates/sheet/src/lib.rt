@@ -1,11 +1,8 @@
 // The link sheet and its exact reader.
 #![tactic(auto)]
 
-mod cast;
-mod draft;
-mod grow;
-mod script;
+mod contents;
 mod sheet;
-mod table;
 
-pub use sheet::{Contents, Sheet};
+pub use contents::Contents;
+pub use sheet::Sheet;

@@ -1,8 +1,7 @@
-pub mod Naming
 pub mod Finding
 pub mod Breaks
 pub mod TermWords
 pub mod Standing
 pub mod Magnitudes
-pub mod Standings
 pub mod Fields
+pub mod TermShape

@@ -1,0 +1,4 @@
+mod Parts
+pub mod Sizes
+mod Nodes
+mod Wholes
