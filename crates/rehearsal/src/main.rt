@@ -3,10 +3,10 @@
 
 use anyhow::anyhow;
 use lexer::Declined;
-use model::{Agent, Name, Role, Sort};
 use sheet::{Contents, Sheet};
 use std::io::Read;
 use std::str::from_utf8;
+use terms::{Agent, Name, Role, Sort};
 
 // No sheet has more bytes.
 const MOST_BYTES: u64 = 8192;
@@ -72,16 +72,16 @@ fn tell_role(rt: &HostRuntime, agents: &[Agent], role: &Role) -> anyhow::Result<
 
 // What the sheet says in short.
 fn tell(rt: &HostRuntime, contents: &Contents) -> anyhow::Result<()> {
-    let agents = contents.agents().len();
-    let texts = contents.texts().len();
-    let roles = contents.roles().len();
-    let nonces = contents.nonces().len();
-    let known = contents.known().len();
+    let agents = contents.agents.len();
+    let texts = contents.texts.len();
+    let roles = contents.roles.len();
+    let nonces = contents.nonces.len();
+    let known = contents.known.len();
     println!(rt;
         "sheet read: {agents} agents, {texts} texts, {roles} roles, {nonces} nonces, {known} known"
     )?;
-    for role in contents.roles() {
-        tell_role(rt, contents.agents(), role)?;
+    for role in contents.roles.iter() {
+        tell_role(rt, contents.agents.as_slice(), role)?;
     }
     Ok(())
 }

@@ -1,1 +1,3 @@
+pub mod Casts
+pub mod Ranking
 pub mod Lining

@@ -5,10 +5,10 @@ use Rattle.lexer.specs.declared.Declined.{Declined}
 use Rattle.lexer.specs.declared.Declined.TheVariants as declined
 use Rattle.lexer.specs.declared.Line.{Line}
 use Rattle.lexer.specs.Text.{line_of, lines_of}
-use Rattle.draft.specs.declared.draft.Draft.{Draft}
-use Rattle.draft.specs.Kept.{draft_of}
+use Rattle.sheet.specs.declared.draft.Draft.{Draft}
+use Rattle.sheet.specs.Kept.{draft_of}
 use Rattle.terms.specs.Outcomes.{Becomes, Reads}
-use Rattle.draft.specs.Sections.{blank, in_part, lines_from}
+use Rattle.sheet.specs.Sections.{blank, in_part, lines_from}
 use Rattle.terms.specs.Terms.{and_then}
 
 module _ (ls : List Line) (i : ℕ) (d : Draft) (h : lines_from blank 1 (lines_of ls) ≡ lines_from (draft_of d) (i + 1) (lines_of (drop i ls))) (l : Line) (lt : i < length ls) (is : l ≡ get_or ls i l) where

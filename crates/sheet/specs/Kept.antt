@@ -1,12 +1,32 @@
--- What the code's sheet stands for.
-use Rattle.std.specs.Prelude.{map, Option}
+-- What the code's draft of a sheet stands for.
+use Rattle.std.specs.Prelude.{vec_items, Option}
+use Rattle.sheet.specs.declared.cast.Cast.{Cast}
+use Rattle.sheet.specs.declared.cast.Title.{Title}
 use Rattle.std.specs.Option.{option_map}
-use Rattle.model.specs.Names.{letters}
-use Rattle.model.specs.Sheet as model
-use Rattle.model.specs.Stored.{agent_of, claim_of, items, nonce_of, ranked_of, role_of, sealed_of, signal_of, term_of, variable_of}
-use Rattle.sheet.specs.declared.contents.Contents.{Contents}
+use Rattle.sheet.specs.declared.draft.Draft.{Draft}
+use Rattle.sheet.specs.declared.script.Script.{Script}
+use Rattle.sheet.specs.declared.sheet.Contents.{Contents}
 use Rattle.sheet.specs.declared.sheet.Sheet.{Sheet}
-use Rattle.sheet.specs.Sheets.{atom_of}
+use Rattle.sheet.specs.declared.table.Table.{Table}
+use Rattle.terms.specs.Sheet as model
+use Rattle.sheet.specs.Drafts as drafts
+use Rattle.terms.specs.Names.{letters}
+use Rattle.terms.specs.Stored.{agent_of, claim_of, items, nonce_of, ranked_of, role_of, signal_of, step_of, nodes_of, variable_of}
+
+abbrev pub title_of : Title → drafts.Title
+title_of t = record { name = letters t.name; player = t.player }
+
+unfoldable pub cast_of : Cast → drafts.Cast
+cast_of c = record { agents = items agent_of c.agents; texts = items letters c.texts; roles = items role_of c.roles; nonces = items nonce_of c.nonces }
+
+unfoldable pub script_of : Script → drafts.Script
+script_of s = record { title = title_of s.title; variables = items variable_of s.variables; usages = vec_items s.usages; steps = items step_of s.steps }
+
+unfoldable pub table_of : Table → drafts.Table
+table_of t = record { free = items variable_of t.free; usages = vec_items t.usages; atoms = items (ranked_of (λ n. n)) t.atoms; seals = items (ranked_of nodes_of) t.seals; marks = items (ranked_of signal_of) t.marks }
+
+abbrev pub draft_of : Draft → drafts.Draft
+draft_of d = record { part = d.part; sections = vec_items d.sections; cast = cast_of d.cast; script = script_of d.script; known = items nodes_of d.known; claim = option_map claim_of d.claim; table = table_of d.table }
 
 abbrev pub contents_of : Contents → model.Sheet
 contents_of c = record {
@@ -14,11 +34,11 @@ contents_of c = record {
   texts = items letters c.texts;
   roles = items role_of c.roles;
   nonces = items nonce_of c.nonces;
-  known = items term_of c.known;
+  known = items nodes_of c.known;
   claim = claim_of c.claim;
   free = items variable_of c.free;
-  atoms = map atom_of (items (ranked_of (λ n. n)) c.atoms);
-  seals = items (ranked_of sealed_of) c.seals;
+  atoms = items (ranked_of (λ n. n)) c.atoms;
+  seals = items (ranked_of nodes_of) c.seals;
   marks = items (ranked_of signal_of) c.marks;
 }
 

@@ -1,2 +1,4 @@
-pub mod Sheets
+pub mod Drafts
+pub mod Reading
 pub mod Kept
+pub mod Sections

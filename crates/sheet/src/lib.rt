@@ -1,8 +1,11 @@
 // The link sheet and its exact reader.
 #![tactic(auto)]
 
-mod contents;
+mod cast;
+mod draft;
+mod grow;
+mod script;
 mod sheet;
+mod table;
 
-pub use contents::Contents;
-pub use sheet::Sheet;
+pub use sheet::{Contents, Sheet};

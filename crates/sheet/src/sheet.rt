@@ -1,18 +1,30 @@
 // The sheet: unread and empty, or as it was read.
 ghost use Rattle.std.specs.Prelude.{◌≡◌, None};
 ghost use Rattle.lexer.specs.Text.{lines_of};
-ghost use Rattle.draft.specs.Kept.{draft_of};
-ghost use Rattle.sheet.specs.Kept.{contents_of, sheet_of};
+ghost use Rattle.sheet.specs.Kept.{contents_of, draft_of, sheet_of};
 ghost use Rattle.terms.specs.Outcomes.{Reads, Sheeted};
-ghost use Rattle.draft.specs.Sections.{blank, lines_from};
-ghost use Rattle.sheet.specs.Sheets.{finished, reading};
+ghost use Rattle.sheet.specs.Sections.{blank, finished, lines_from, reading};
 ghost use Rattle.std.specs.Option.{option_map};
 
-use super::contents::Contents;
-use draft::{Draft, Part};
+use super::draft::{Draft, Part};
 use lexer::{Declined, Line, Rule, read_lines};
 use std::alloc::Global;
-use terms::decline;
+use terms::{Agent, Claim, Name, Node, Nonce, Ranked, Role, Signal, Variable, decline};
+
+// What a sheet says.
+#[derive(Drop)]
+pub struct Contents {
+    pub agents: Vec<Agent>,
+    pub texts: Vec<Name>,
+    pub roles: Vec<Role>,
+    pub nonces: Vec<Nonce>,
+    pub known: Vec<Vec<Node>>,
+    pub claim: Claim,
+    pub free: Vec<Variable>,
+    pub atoms: Vec<Ranked<Node>>,
+    pub seals: Vec<Ranked<Vec<Node>>>,
+    pub marks: Vec<Ranked<Signal>>,
+}
 
 // A link sheet.
 #[derive(Drop)]

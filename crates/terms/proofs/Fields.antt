@@ -1,7 +1,7 @@
 -- Two lists of atoms, compared one by one.
 use Rattle.std.proofs.Common.{◌≡◌, ℕ, suc, ◌+◌, ◌<◌, ◌≤◌, Bool, true, false, ◌&&◌, List, [], ◌∷◌, length, get_or, drop, sym, refl, ap, ◌∙◌}
 use Rattle.std.proofs.lemmas.List.{at_drop_more, at_drop_all}
-use Rattle.model.specs.declared.term.Field.{Field}
+use Rattle.terms.specs.declared.term.Field.{Field}
 use Rattle.terms.specs.Same.{same_field, same_fields}
 
 pub fields-step : (a b : List Field) (i : ℕ) (d e : Field) {t : Bool} → i < length a → i < length b → t ≡ same_field (get_or a i d) (get_or b i e) → same_fields (drop i a) (drop i b) ≡ (t && same_fields (drop (i + 1) a) (drop (i + 1) b))

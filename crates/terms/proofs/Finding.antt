@@ -7,7 +7,7 @@ use Rattle.std.proofs.lemmas.Simd.{map-map}
 use Rattle.std.proofs.lemmas.List.{at_drop_more, at_drop_all, get_or-map}
 use Rattle.std.specs.Option.{option_map}
 use Rattle.std.specs.Str.{bytes_eq}
-use Rattle.model.specs.Names.{index_of}
+use Rattle.terms.specs.Names.{index_of}
 
 -- so many further on
 abbrev pub further : ℕ → Option ℕ → Option ℕ

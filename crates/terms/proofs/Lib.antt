@@ -1,7 +1,8 @@
+pub mod Naming
 pub mod Finding
 pub mod Breaks
 pub mod TermWords
 pub mod Standing
 pub mod Magnitudes
+pub mod Standings
 pub mod Fields
-pub mod TermShape

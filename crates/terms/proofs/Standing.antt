@@ -6,11 +6,11 @@ use Rattle.lexer.specs.declared.Fault.{Fault}
 use Rattle.lexer.specs.declared.Word.{Word}
 use Rattle.lexer.specs.Text.{WordAt, words_of}
 use Rattle.terms.specs.declared.usages.Usage.{Usage}
-use Rattle.model.specs.declared.stored.Variable.{Variable}
+use Rattle.terms.specs.declared.stored.Variable.{Variable}
 use Rattle.terms.specs.Usages.{check_first, check_usages, note_all, noted, place_of}
-use Rattle.model.specs.Names.{letters}
-use Rattle.model.specs.Sheet as model
-use Rattle.model.specs.Stored.{variable_of}
+use Rattle.terms.specs.Names.{letters}
+use Rattle.terms.specs.Sheet as model
+use Rattle.terms.specs.Stored.{variable_of}
 use Rattle.terms.specs.Terms.{and_then}
 
 -- a name stands at the word at i, or after it

@@ -8,11 +8,11 @@ use Rattle.lexer.specs.declared.Rule.TheVariants as rule
 use Rattle.lexer.specs.declared.Word.{Word}
 use Rattle.lexer.specs.Text.{WordAt, word_of, words_of}
 use Rattle.terms.specs.declared.term.Expect.{Expect}
-use Rattle.model.specs.declared.term.Field.{Field}
-use Rattle.model.specs.declared.term.Node.{Node}
+use Rattle.terms.specs.declared.term.Field.{Field}
+use Rattle.terms.specs.declared.term.Node.{Node}
 use Rattle.terms.specs.Outcomes.{Reads, asked}
 use Rattle.terms.proofs.Breaks.{reads-break}
-use Rattle.terms.specs.Terms.{Progress, Scope, and_then, complete, fault, field_of, fields_from, or_fault, read_nodes, term_from, word_on}
+use Rattle.terms.specs.Terms.{Progress, Scope, and_then, complete, fault, field_of, fields_from, or_fault, read_term, term_from, word_on}
 
 -- what is asked for is read where it is there, and else its fault
 pub asked-reads : {X : Type 0} (o : Option X) (r : Rule) (at : ℕ) (x : Result X Declined) → x ≡ asked o r at → Reads (λ x. x) (or_fault o r at) x
@@ -51,18 +51,18 @@ wanted-more s x n done w q e = grind arith
 
 -- the term as far as it is read, carried on over the rest of the words, is the term; and each word so far brought at most one term to come
 pub record TermSofar (s : Scope) (at : ℕ) (ws : List Word) (p : Progress) (i : ℕ) : Type 0 where
-  pub rest : read_nodes s at (words_of ws) ≡ term_from s at p (32 - i) (words_of (drop i ws))
+  pub rest : read_term s at (words_of ws) ≡ term_from s at p (32 - i) (words_of (drop i ws))
   pub few : p.wanted ≤ i + 1
 
 module _ {s : Scope} {at : ℕ} {ws : List Word} {p : Progress} {i : ℕ} (h : TermSofar s at ws p i) where
   -- past the last word the term is complete, or cut short
-  all : (b : Bool) → b ≡ complete p → length ws ≤ i → read_nodes s at (words_of ws) ≡ cond b (Ok p.done) (fault rule.Length at)
+  all : (b : Bool) → b ≡ complete p → length ws ≤ i → read_term s at (words_of ws) ≡ cond b (Ok p.done) (fault rule.Length at)
   all b is e = h.rest ∙ at_drop_all (λ r. term_from s at p (32 - i) (words_of r)) ws i e ∙ ap (λ b. cond b (Ok p.done) (fault rule.Length at)) (sym is)
 
-  pub term-done : true ≡ complete p → length ws ≤ i → read_nodes s at (words_of ws) ≡ Ok p.done
+  pub term-done : true ≡ complete p → length ws ≤ i → read_term s at (words_of ws) ≡ Ok p.done
   term-done = all true
 
-  pub term-cut : false ≡ complete p → length ws ≤ i → read_nodes s at (words_of ws) ≡ fault rule.Length at
+  pub term-cut : false ≡ complete p → length ws ≤ i → read_term s at (words_of ws) ≡ fault rule.Length at
   term-cut = all false
 
   module _ (d : Word) (lt : i < length ws) where
@@ -74,11 +74,11 @@ module _ {s : Scope} {at : ℕ} {ws : List Word} {p : Progress} {i : ℕ} (h : T
     term_on r = and_then r (λ q. term_from s at q (32 - i - 1) (words_of (drop (i + 1) ws)))
 
     -- the next word is read, unless the term is full
-    by : (b : Bool) → b ≡ (complete p || eqb (32 - i) 0) → read_nodes s at (words_of ws) ≡ cond b (fault rule.Length (get_or ws i d).place) (term_on here)
+    by : (b : Bool) → b ≡ (complete p || eqb (32 - i) 0) → read_term s at (words_of ws) ≡ cond b (fault rule.Length (get_or ws i d).place) (term_on here)
     by b is = h.rest ∙ at_drop_more (λ r. term_from s at p (32 - i) (words_of r)) ws i d lt ∙ ap (λ b. cond b (fault rule.Length (get_or ws i d).place) (term_on here)) (sym is)
 
     -- a word past a full term is the fault
-    pub term-full : true ≡ (complete p || eqb (32 - i) 0) → read_nodes s at (words_of ws) ≡ fault rule.Length (get_or ws i d).place
+    pub term-full : true ≡ (complete p || eqb (32 - i) 0) → read_term s at (words_of ws) ≡ fault rule.Length (get_or ws i d).place
     term-full = by true
 
     -- a word that is read takes the term further
@@ -89,5 +89,5 @@ module _ {s : Scope} {at : ℕ} {ws : List Word} {p : Progress} {i : ℕ} (h : T
     }
 
     -- a word that is not read is the fault
-    pub term-break : false ≡ (complete p || eqb (32 - i) 0) → {X Y : Type 0} (of : X → Progress) (to : Y → List Node) (e : Declined) → Reads of here (Err e) → Reads to (read_nodes s at (words_of ws)) (Err e)
+    pub term-break : false ≡ (complete p || eqb (32 - i) 0) → {X Y : Type 0} (of : X → Progress) (to : Y → List Node) (e : Declined) → Reads of here (Err e) → Reads to (read_term s at (words_of ws)) (Err e)
     term-break is of to e k = reads-break of to here _ _ e (by false is) k

@@ -4,8 +4,8 @@ use Rattle.lexer.specs.declared.Declined.{Declined}
 use Rattle.lexer.specs.declared.Declined.TheVariants as declined
 use Rattle.lexer.specs.declared.Fault.{Fault}
 use Rattle.lexer.specs.declared.Rule.{Rule}
-use Rattle.model.specs.declared.name.Name.{Name}
-use Rattle.model.specs.Names.{letters}
+use Rattle.terms.specs.declared.name.Name.{Name}
+use Rattle.terms.specs.Names.{letters}
 
 -- The code's answer is what the definition gives; want of memory may come at any time.
 abbrev pub Reads : {X M : Type 0} → (X → M) → Result M Fault → Result X Declined → Type 0

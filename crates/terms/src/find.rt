@@ -1,14 +1,15 @@
 // Finding something by its name.
 ghost use Rattle.std.specs.Prelude.{◌≡◌, ℕ, List, map};
-ghost use Rattle.model.specs.Names.{index_of, letters};
+ghost use Rattle.terms.specs.Names.{index_of, letters};
 ghost use Rattle.lexer.specs.Text.{words_of};
 ghost use Rattle.terms.specs.Terms.{role_names};
-ghost use Rattle.model.specs.Stored.{agent_of, nonce_of, role_of, variable_of};
+ghost use Rattle.terms.specs.Stored.{agent_of, nonce_of, role_of, variable_of};
 ghost use Rattle.terms.specs.Terms.{agent_names, nonce_names, variable_names};
 ghost use Rattle.std.specs.Str.{bytes_eq};
 
+use super::name::Name;
+use super::stored::{Agent, Nonce, Role, Variable};
 use lexer::Word;
-use model::{Agent, Name, Nonce, Role, Variable};
 
 // What has a name.
 pub trait Named {

@@ -4,13 +4,14 @@ ghost use Rattle.lexer.specs.Text.{word_of, words_of};
 ghost use Rattle.lexer.specs.declared.Declined.TheVariants.{Fault as Faulty};
 ghost use Rattle.terms.specs.Outcomes.{Reads, asked};
 ghost use Rattle.terms.specs.Scopes.{progress_of, scope_of};
-ghost use Rattle.model.specs.Stored.{signal_of, term_of};
-ghost use Rattle.terms.specs.Terms.{closed, complete, fields_from, reached, read_nodes, read_signal, read_term, term_word, word_on};
+ghost use Rattle.terms.specs.Stored.{signal_of};
+ghost use Rattle.terms.specs.Terms.{closed, complete, fields_from, reached, read_signal, read_term, term_word, word_on};
 
+use super::name::{Name, is_name};
 use super::scope::Scope;
-use super::term::{Expect, Opening};
+use super::stored::Signal;
+use super::term::{Expect, Field, Node, Opening};
 use lexer::{Declined, Fault, Rule, Word};
-use model::{Field, Name, Node, Signal, Term, is_name};
 use std::alloc::Global;
 
 // No term has more words.
@@ -143,13 +144,13 @@ fn next_word(scope: &Scope, progress: Progress, word: Word) -> Result<Progress, 
 }
 
 // The nodes of the term that the words are; the line lies at `place`.
-fn read_nodes(
+pub fn read_term(
     heap: Global,
     scope: &Scope,
     place: usize,
     words: &[Word],
 ) -> Result<Vec<Node>, Declined>
-    ensures { Reads vec_items (read_nodes (scope_of scope.now) place (words_of words.now)) result }
+    ensures { Reads vec_items (read_term (scope_of scope.now) place (words_of words.now)) result }
 {
     let mut progress = Progress {
         expect: Expect::Term,
@@ -166,19 +167,6 @@ fn read_nodes(
         return decline(Rule::Length, place);
     }
     Ok(progress.done)
-}
-
-// The term that the words are.
-pub fn read_term(
-    heap: Global,
-    scope: &Scope,
-    place: usize,
-    words: &[Word],
-) -> Result<Term, Declined>
-    ensures { Reads term_of (read_term (scope_of scope.now) place (words_of words.now)) result }
-{
-    let nodes = read_nodes(heap, scope, place, words)?;
-    expect(Term::new(nodes), Rule::Length, place)
 }
 
 // What each of the words stands for.

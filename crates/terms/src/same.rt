@@ -1,10 +1,11 @@
 // When two atoms, and two events, are the same.
 ghost use Rattle.std.specs.Prelude.{◌≡◌};
 ghost use Rattle.terms.specs.Same.{same_atom, same_field, same_fields, same_kind, same_signal};
-ghost use Rattle.model.specs.Stored.{signal_of};
+ghost use Rattle.terms.specs.Stored.{signal_of};
 
+use super::stored::Signal;
+use super::term::{Field, Node};
 use message::Kind;
-use model::{Field, Node, Signal};
 
 fn same_kind(a: Kind, b: Kind) -> bool
     ensures { result ≡ same_kind a b }

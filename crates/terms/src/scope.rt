@@ -4,9 +4,11 @@ ghost use Rattle.terms.specs.Scopes.{scope_of};
 ghost use Rattle.terms.specs.Terms.{agent_field, agent_kind, agent_sort, field_of, first_agent, second_agent};
 
 use super::find::{find_agent, find_nonce, find_text, find_variable};
+use super::name::Name;
+use super::stored::{Agent, Nonce, Variable};
+use super::term::{Field, Sort};
 use lexer::same;
 use message::Kind;
-use model::{Agent, Field, Name, Nonce, Sort, Variable};
 
 // In a role's script `self` and the role's variables, in the ranks the free variables, and the named ones.
 #[derive(Clone, Copy)]

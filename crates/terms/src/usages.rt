@@ -3,12 +3,13 @@ ghost use Rattle.std.specs.Prelude.{◌≡◌, map};
 ghost use Rattle.lexer.specs.Text.{words_of};
 ghost use Rattle.terms.specs.Usages.{check_first, check_usages, foreign_nonce, note_all, noted, place_of};
 ghost use Rattle.terms.specs.Outcomes.{Reads};
-ghost use Rattle.model.specs.Stored.{variable_of};
+ghost use Rattle.terms.specs.Stored.{variable_of};
 
 use super::reader::decline;
+use super::stored::Variable;
+use super::term::Sort;
 use lexer::{Declined, Rule, Word};
 use message::Kind;
-use model::{Sort, Variable};
 
 // Where a variable first stands, and whether that line receives.
 #[derive(Clone, Copy)]

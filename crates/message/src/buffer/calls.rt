@@ -2,9 +2,9 @@
 // a pair before its halves, a seal before its content.
 ghost use Rattle.std.specs.Prelude.{◌≡◌, ◌<◌, min, max, [], ◌∷◌, MatchResult};
 ghost use Rattle.message.specs.Building.{Adds, written};
-ghost use Rattle.message.specs.Message.{agent, key, key_bytes, key_of, nonce, single, size, text, wire};
+ghost use Rattle.message.specs.Message.{agent, atom, key, key_bytes, key_of, nonce, size, text, wire};
 
-use super::super::{Atom, Kind, MOST, NotMessage};
+use super::super::{Kind, MOST, NotMessage};
 use super::Message;
 
 // The owners of a key as bytes, the lesser or equal one first.
@@ -61,14 +61,14 @@ impl Message {
         self.append(&[b'T', high, low])
     }
 
-    // An agent, a nonce or a text.
-    pub fn atom(&mut self, atom: Atom) -> Result<(), NotMessage>
-        ensures { Adds (Unit {0}) (wire (single atom)) self.old self.new result }
+    // An atom, by its kind and number.
+    pub fn atom(&mut self, kind: Kind, number: u16) -> Result<(), NotMessage>
+        ensures { Adds (number < size kind) (wire (atom kind number)) self.old self.new result }
     {
-        match atom {
-            Atom::Agent(number) => self.append(&[b'A', number]),
-            Atom::Nonce(number) => self.nonce(number),
-            Atom::Text(number) => self.text(number),
+        match kind {
+            Kind::Agent => self.agent(number),
+            Kind::Nonce => self.nonce(number),
+            Kind::Text => self.text(number),
         }
     }
 

@@ -1,5 +1,5 @@
 use Rattle.std.proofs.Common.{refl}
-use Rattle.draft.specs.Kept.{cast_of, table_of}
+use Rattle.sheet.specs.Kept.{cast_of, table_of}
 use Rattle.sheet.proofs.sheet.finish.Goals as goal
 use Rattle.sheet.proofs.sheet.finish.Goals.{in-End, in_default-matches}
 

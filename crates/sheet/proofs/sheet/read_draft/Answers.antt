@@ -2,8 +2,8 @@ use Rattle.std.proofs.Common.{◌+◌, sym, ap, ◌∙◌}
 use Rattle.std.proofs.lemmas.List.{at_drop_all}
 use Rattle.std.proofs.lemmas.Result.{err_from_is_err_and}
 use Rattle.lexer.specs.Text.{lines_of}
-use Rattle.draft.specs.Kept.{draft_of}
-use Rattle.draft.specs.Sections.{lines_from}
+use Rattle.sheet.specs.Kept.{draft_of}
+use Rattle.sheet.specs.Sections.{lines_from}
 use Rattle.sheet.proofs.Lining.{line-break, line-more}
 use Rattle.sheet.proofs.sheet.read_draft.Goals as goal
 

@@ -1,5 +1,5 @@
 use Rattle.std.proofs.Common.{◌∙◌}
-use Rattle.model.specs.Stored.{nonce_of}
+use Rattle.terms.specs.Stored.{nonce_of}
 use Rattle.terms.proofs.Finding.{by-model}
 use Rattle.terms.proofs.find.find_nonce.Goals as goal
 

@@ -1,5 +1,5 @@
 use Rattle.std.proofs.Common.{◌∙◌}
-use Rattle.model.specs.Stored.{role_of}
+use Rattle.terms.specs.Stored.{role_of}
 use Rattle.terms.proofs.Finding.{by-model}
 use Rattle.terms.proofs.find.find_role.Goals as goal
 

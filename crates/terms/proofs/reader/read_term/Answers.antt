@@ -1,18 +1,29 @@
-use Rattle.std.proofs.Common.{Ok, vec_items, refl}
+use Rattle.std.proofs.Common.{vec_items, rules}
 use Rattle.std.proofs.lemmas.Result.{err_from_is_err_and}
 use Rattle.std.specs.declared.alloc.Global.{Global}
-use Rattle.model.specs.Stored.{term_of}
-use Rattle.model.specs.Trees.{tree}
+use Rattle.terms.specs.Scopes.{progress_of}
 use Rattle.terms.specs.Terms.{read_term}
-use Rattle.terms.proofs.Breaks.{reads-break}
-use Rattle.terms.proofs.TermShape.{term_made}
+use Rattle.terms.proofs.TermWords.{term-break, term-cut, term-done, term-full, term-more}
 use Rattle.terms.proofs.reader.read_term.Goals as goal
 
-pub returns-in_err-nodes : goal.returns-in_err-nodes
+pub loop-i-init : goal.loop-i-init
 unfolding read_term
-returns-in_err-nodes c =
+loop-i-init c = search rules
+
+pub returns-then-is_full : goal.returns-then-is_full
+returns-then-is_full c = search (rules, term-full)
+
+pub returns-in_err-progress : goal.returns-in_err-progress
+returns-in_err-progress c =
     let p = err_from_is_err_and c.from_residual.result c.from_residual.ensures.1 in
-    rw (p.1, p.2) (reads-break (vec_items {Z = Global}) term_of _ (λ ns. Ok (tree ns)) _ _ refl c.in_err-nodes.ensures)
+    rw (p.1, p.2)
+    (term-break c.loop-i.invariant _ c.loop-i-test.true c.if-is_full.ensures progress_of (vec_items {Z = Global}) _ c.in_err-progress.ensures)
+
+pub loop-i-preserved : goal.loop-i-preserved
+loop-i-preserved c = term-more c.loop-i.invariant _ c.loop-i-test.true c.if-is_full.ensures _ c.in_ok-progress.ensures
+
+pub returns-then-not-is_complete : goal.returns-then-not-is_complete
+returns-then-not-is_complete c = search (rules, term-cut)
 
 pub returns : goal.returns
-returns c = term_made _ _ _ _ _ _ _ c.in_ok-nodes.ensures c.new.ensures c.expect.ensures
+returns c = search (rules, term-done)

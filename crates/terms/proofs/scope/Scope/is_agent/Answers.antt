@@ -1,7 +1,7 @@
 use Rattle.std.proofs.Common.{sym, ap, ◌∙◌}
 use Rattle.std.proofs.lemmas.Bool.{le-ltb}
 use Rattle.terms.specs.Scopes.{scope_of}
-use Rattle.model.specs.Stored.{variable_of}
+use Rattle.terms.specs.Stored.{variable_of}
 use Rattle.terms.specs.Terms.{agent_field, agent_variable}
 use Rattle.terms.proofs.Finding.{nth-model, nth-none}
 use Rattle.terms.proofs.scope.Scope.is_agent.Goals as goal

@@ -1,4 +1,0 @@
-pub mod Drafts
-pub mod Reading
-pub mod Kept
-pub mod Sections

@@ -1,4 +1,0 @@
-mod Parts
-pub mod Sizes
-mod Nodes
-mod Wholes

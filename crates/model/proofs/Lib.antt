@@ -1,4 +1,0 @@
-pub mod Naming
-pub mod Standings
-pub mod Trees
-pub mod Counting

@@ -1,5 +1,0 @@
-use Rattle.model.proofs.Counting.{Counted}
-use Rattle.model.proofs.nodes.calls.are_term.Given as goal
-
-abbrev pub invariant-loop-node : goal.invariant-loop-node
-invariant-loop-node l = Counted l.nodes l.node-index l.wanted l.words

@@ -1,7 +1,0 @@
-pub mod Names
-pub mod Trees
-pub mod Sheet
-pub mod LineNumbers
-pub mod Stored
-pub mod Variables
-pub mod Laws

@@ -1,0 +1,12 @@
+use Rattle.std.proofs.lemmas.List.{map_push}
+use Rattle.std.proofs.Common.{vec_items}
+use Rattle.sheet.specs.Kept.{cast_of}
+use Rattle.terms.specs.Names.{letters}
+use Rattle.sheet.proofs.cast.Cast.add_text.Goals as goal
+
+pub returns : goal.returns
+unfolding cast_of
+returns c =
+    let pushed = map_push letters (vec_items c.args.self.now.texts) c.args.text in
+    let items = c.in_ok-push.ensures.items in
+    cc

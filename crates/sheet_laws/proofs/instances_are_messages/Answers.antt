@@ -1,5 +1,0 @@
-use Rattle.sheet_laws.proofs.Messaging.{instances-are-messages}
-use Rattle.sheet_laws.proofs.instances_are_messages.Goals as goal
-
-pub returns : goal.returns
-returns c = instances-are-messages

@@ -1,5 +1,0 @@
-use Rattle.sheet_laws.proofs.Signalling.{signals-formed}
-use Rattle.sheet_laws.proofs.signals_are_formed.Goals as goal
-
-pub returns : goal.returns
-returns c = signals-formed

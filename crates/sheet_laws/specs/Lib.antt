@@ -1,9 +1,0 @@
-pub mod Counts
-pub mod Messages
-pub mod NamesApart
-pub mod Numbering
-pub mod Places
-pub mod References
-pub mod Signals
-pub mod TermsShort
-pub mod VariablesUsed

@@ -1,0 +1,47 @@
+-- Where a variable stands in a script, and whether it is received.
+use Rattle.std.specs.Prelude.{ℕ, Bool, true, false, cond, ◌||◌, List, [], ◌∷◌, ◌==◌}
+use Rattle.terms.specs.declared.term.Field.{Field}
+use Rattle.terms.specs.declared.term.Field.TheVariants.{Player, Variable, Named}
+use Rattle.terms.specs.declared.term.Node.{Node}
+use Rattle.terms.specs.declared.term.Node.TheVariants as node
+use Rattle.terms.specs.Sheet.{Step, send, receive, signal}
+
+-- The atom is the variable of this number.
+abbrev pub is_variable : ℕ → Field → Bool
+is_variable i Player = false
+is_variable i (Variable j) = i == j
+is_variable i (Named k n) = false
+
+-- The variable is an atom of this one node.
+abbrev pub stands_at : ℕ → Node → Bool
+stands_at i (node.Leaf f) = is_variable i f
+stands_at i node.Pair = false
+stands_at i (node.Key f g) = is_variable i f || is_variable i g
+stands_at i (node.Seal f g) = is_variable i f || is_variable i g
+
+-- The variable stands at some node of a term.
+abbrev pub stands_in : ℕ → List Node → Bool
+stands_in i [] = false
+stands_in i (n ∷ ns) = stands_at i n || stands_in i ns
+
+-- The variable is one of these atoms.
+abbrev pub stands_among : ℕ → List Field → Bool
+stands_among i [] = false
+stands_among i (f ∷ fs) = is_variable i f || stands_among i fs
+
+-- The variable stands in what the step sends, receives or signals.
+abbrev pub stands_in_step : ℕ → Step → Bool
+stands_in_step i (send ns) = stands_in i ns
+stands_in_step i (receive ns) = stands_in i ns
+stands_in_step i (signal s) = stands_among i s.fields
+
+-- The step receives a term.
+abbrev pub receives : Step → Bool
+receives (send ns) = false
+receives (receive ns) = true
+receives (signal s) = false
+
+-- The variable is received: the first step in which it stands receives.
+abbrev pub received : ℕ → List Step → Bool
+received i [] = false
+received i (s ∷ ss) = cond (stands_in_step i s) (receives s) (received i ss)

@@ -1,0 +1,64 @@
+// What a sheet is made of, as it is kept in memory.
+use super::name::Name;
+use super::term::{Field, Node, Sort};
+
+// An agent, honest or the enemy's.
+#[derive(Clone, Copy)]
+pub struct Agent {
+    pub name: Name,
+    pub enemy: bool,
+}
+
+// A variable of a role or of the ranks.
+#[derive(Clone, Copy)]
+pub struct Variable {
+    pub name: Name,
+    pub sort: Sort,
+}
+
+// A signal word and its atoms.
+#[derive(Drop)]
+pub struct Signal {
+    pub word: Name,
+    pub fields: Vec<Field>,
+}
+
+// A step of a role's script. A term is its nodes in prefix order.
+#[derive(Drop)]
+pub enum Step {
+    Send(Vec<Node>),
+    Receive(Vec<Node>),
+    Signal(Signal),
+}
+
+// A role, which its player alone plays, or every honest agent where it has none.
+#[derive(Drop)]
+pub struct Role {
+    pub name: Name,
+    pub player: Option<usize>,
+    pub variables: Vec<Variable>,
+    pub steps: Vec<Step>,
+}
+
+// A nonce named for an agent, a role and a fresh variable there.
+#[derive(Clone, Copy)]
+pub struct Nonce {
+    pub name: Name,
+    pub agent: usize,
+    pub role: usize,
+    pub variable: usize,
+}
+
+// The completion is claimed to come only after the needed event.
+#[derive(Drop)]
+pub struct Claim {
+    pub completion: Signal,
+    pub needed: Signal,
+}
+
+// A line that gives a rank.
+#[derive(Drop)]
+pub struct Ranked<T> {
+    pub rank: i16,
+    pub what: T,
+}
