@@ -1,9 +1,10 @@
 -- A reading from the front of a line to its end.
-use Rattle.std.proofs.Common.{◌≡◌, ℕ, ◌<◌, ◌≤◌, ◌⊎◌, List, [], ◌∷◌, ◌++◌, length, get_or, sym, ap, subst, ⊎_elim, append_assoc, arith}
+use Rattle.std.proofs.Common.{◌≡◌, ℕ, ◌<◌, ◌≤◌, ◌⊎◌, List, [], ◌∷◌, ◌++◌, length, get_or, sym, ap, ◌∙◌, subst, ⊎_elim, append_assoc, arith}
 use Rattle.std.specs.List.{between}
 use Rattle.std.proofs.lemmas.List.{take_all}
-use Rattle.hex_text.specs.Hex.{NoDigit, NoSpace, Pair, Spells}
-use Rattle.hex_text.proofs.Texts.{SpellsSome, Follows, follows_nothing, follows-some, join, part_at, two-at-least}
+use Rattle.std.proofs.lemmas.Slice.{first_rest}
+use Rattle.hex_text.specs.Hex.{NoDigit, Pair, Spells}
+use Rattle.hex_text.proofs.Texts.{SpellsSome, Follows, follows-some, join, part_at}
 
 -- The bytes `done` are read from the front of the line. Those of the rest go on from them, and the line is the text
 -- of some bytes only if the rest is.
@@ -24,10 +25,11 @@ first_two [] h = absurd (omega arith)
 first_two (x ∷ []) h = absurd (omega arith)
 first_two (x ∷ y ∷ more) h = ap (λ m. x ∷ y ∷ m) (sym (take_all _ more (omega arith)))
 
-module _ {line done rest : List ℕ} (h : Sofar line done rest) where
-  pub too_short : length rest < 2 → (all : List ℕ) → Spells all line → ⊥
-  too_short short all s = let (b, bs, t) = h.wants all s in two-at-least b bs rest t short
+-- the pattern `[b' ', after @ ..]`
+pub spaced : (more : List ℕ) → get_or more 0 0 ≡ 32 → 0 < length more → more ≡ 32 ∷ between 1 (length more) more
+spaced more is some = first_rest more 0 some ∙ ap (λ x. x ∷ between 1 (length more) more) is
 
+module _ {line done rest : List ℕ} (h : Sofar line done rest) where
   module _ {high low : ℕ} {more : List ℕ} (cut : rest ≡ high ∷ low ∷ more) where
     pub no-digits : NoDigit high ⊎ NoDigit low → (all : List ℕ) → Spells all line → ⊥
     no-digits none all s =
@@ -37,9 +39,6 @@ module _ {line done rest : List ℕ} (h : Sofar line done rest) where
 
     wants-more : (all : List ℕ) → Spells all line → (bs : List ℕ) × Follows bs more
     wants-more all s = let (b, bs, t) = h.wants all s in (bs, (part_at b bs rest cut t).1)
-
-    pub no-space : NoSpace more → 0 < length more → (all : List ℕ) → Spells all line → ⊥
-    no-space none some all s = let (bs, f) = wants-more all s in follows_nothing bs more none some f
 
     module _ (b : ℕ) (p : Pair high low b) where
       pub last : more ≡ [] → Spells (done ++ b ∷ []) line

@@ -1,6 +1,6 @@
 -- The text of bytes, taken apart and put together one byte at a time.
 use Rattle.std.proofs.Common.{◌≡◌, ℕ, ◌/◌, ◌%◌, ◌<◌, List, [], ◌∷◌, length, get_or, drop, sym, refl, ap, ◌∙◌, subst, arith}
-use Rattle.hex_text.specs.Hex.{Digit, Pair, NoSpace, Spells, UniqueReading}
+use Rattle.hex_text.specs.Hex.{Digit, Pair, Spells, UniqueReading}
 
 -- the text of one byte or more
 abbrev pub SpellsSome : List ℕ → Type 0
@@ -10,10 +10,6 @@ SpellsSome text = (b : ℕ) × (bs : List ℕ) × Spells (b ∷ bs) text
 abbrev pub Follows : List ℕ → List ℕ → Type 0
 Follows [] more = more ≡ []
 Follows (b ∷ bs) more = (after : List ℕ) × (more ≡ 32 ∷ after) × Spells (b ∷ bs) after
-
-pub follows_nothing : (bs more : List ℕ) → NoSpace more → 0 < length more → Follows bs more → ⊥
-follows_nothing [] more none some f = omega (arith, ap length f)
-follows_nothing (b ∷ bs) more none some (after, e, s) = none after e
 
 pub follows-some : (bs after : List ℕ) → Follows bs (32 ∷ after) → SpellsSome after
 follows-some [] after f = absurd (omega (arith, ap length f))
@@ -33,7 +29,7 @@ part_at b bs line cut s =
     let (h, l, m, e, p, f) = part b bs line s in
     subst (λ t. Pair (get_or t 0 0) (get_or t 1 0) b × Follows bs (drop 2 t)) (sym e ∙ cut) (p, f)
 
-pub two-at-least : (b : ℕ) (bs line : List ℕ) → Spells (b ∷ bs) line → length line < 2 → ⊥
+two-at-least : (b : ℕ) (bs line : List ℕ) → Spells (b ∷ bs) line → length line < 2 → ⊥
 two-at-least b bs line s short = let (h, l, m, e, p, f) = part b bs line s in omega (arith, ap length e)
 
 one-digit : (code v w : ℕ) → Digit code v → Digit code w → v ≡ w

@@ -1,7 +1,8 @@
 -- Bytes and the text that stands for them: two hexadecimal digits for each byte, one space between two bytes.
-use Rattle.std.specs.Prelude.{◌≡◌, ℕ, ◌+◌, ◌-◌, ◌/◌, ◌%◌, ◌<◌, ◌≤◌, ◌⊎◌, List, [], ◌∷◌, Some, None, Ok, Err, vec_items, Option, Result, Vec, ◌≢◌}
-use Rattle.std.specs.declared.alloc.AllocError.{AllocError}
+use Rattle.std.specs.Prelude.{◌≡◌, ℕ, ◌+◌, ◌-◌, ◌/◌, ◌%◌, ◌<◌, ◌≤◌, ◌⊎◌, List, [], ◌∷◌, Ok, Err, vec_items, Result, Vec}
 use Rattle.std.specs.declared.alloc.Global.{Global}
+use Rattle.hex_text.specs.declared.HexError.{HexError}
+use Rattle.hex_text.specs.declared.HexError.TheVariants.{NotBytes, NoMemory}
 
 -- The character with this code is a hexadecimal digit of value v. The digits 0 to 9 have the codes from 48 on; those
 -- of the values 10 to 15 are A to F, with the codes from 65 on, or a to f, with the codes from 97 on.
@@ -16,10 +17,6 @@ NoDigit code = (v : ℕ) → Digit code v → ⊥
 abbrev pub Pair : ℕ → ℕ → ℕ → Type 0
 Pair high low b = Digit high (b / 16) × Digit low (b % 16)
 
--- The text does not begin with a space.
-abbrev pub NoSpace : List ℕ → Type 0
-NoSpace text = (after : List ℕ) → text ≢ 32 ∷ after
-
 -- The line is the text of these bytes: of no bytes the empty line, of one byte its two digits, and of more bytes the
 -- digits of the first, a space, and the text of the others.
 abbrev pub Spells : List ℕ → List ℕ → Type 0
@@ -28,10 +25,10 @@ Spells (b ∷ []) line = (high : ℕ) × (low : ℕ) × Pair high low b × (line
 Spells (b ∷ c ∷ bs) line = (high : ℕ) × (low : ℕ) × (rest : List ℕ) × Pair high low b × (line ≡ high ∷ low ∷ 32 ∷ rest) × Spells (c ∷ bs) rest
 
 -- What came of a line: the bytes whose text it is, or that it is the text of none. Memory may be wanting at any line.
-abbrev pub Reads : List ℕ → Result (Option (Vec ℕ Global)) AllocError → Type 0
-Reads line (Ok (Some bytes)) = Spells (vec_items bytes) line
-Reads line (Ok None) = (bytes : List ℕ) → Spells bytes line → ⊥
-Reads line (Err e) = Unit {0}
+abbrev pub Reads : List ℕ → Result (Vec ℕ Global) HexError → Type 0
+Reads line (Ok bytes) = Spells (vec_items bytes) line
+Reads line (Err NotBytes) = (bytes : List ℕ) → Spells bytes line → ⊥
+Reads line (Err NoMemory) = Unit {0}
 
 -- A line is the text of at most one list of bytes.
 abbrev pub UniqueReading : Type 0

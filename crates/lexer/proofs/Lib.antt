@@ -1,3 +1,4 @@
-pub mod Pieces
-pub mod Lines
 pub mod Shown
+pub mod Lines
+pub mod Split
+pub mod Sofar

@@ -1,27 +1,15 @@
--- A line's words, by the code and by the definitions.
-use Rattle.std.proofs.Common.{◌≡◌, ℕ, ◌<◌, ◌≤◌, false, ◌&&◌, List, [], length, get_or, drop, vec_items, vec_len, sym, ap, ◌∙◌, arith}
-use lib.ListN.{length-map}
-use Rattle.std.proofs.lemmas.List.{get_or-map, get_or_past, drop_all}
-use Rattle.std.proofs.lemmas.Bool.{lt-ltb, le-ltb}
-use Rattle.std.specs.Str.{bytes_eq}
+-- A line's words, taken by `get` of a range.
+use Rattle.std.proofs.Common.{◌≡◌, ℕ, ◌-◌, List, [], length, take, drop, Option, Some, None, unwrap_or, Bor, sym, ap, ◌∙◌, inl, inr, arith}
+use Rattle.std.proofs.lemmas.List.{take_all, take_rest, take-map, drop_all, drop-map}
+use Rattle.std.specs.Option.{UnwrapsOrElse}
+use Rattle.std.specs.Slice.{IsGetRangeResult}
 use Rattle.lexer.specs.declared.Word.{Word}
-use Rattle.lexer.specs.declared.Line.{Line}
-use Rattle.lexer.specs.Text.{word_of, line_of, word_at, is}
+use Rattle.lexer.specs.Text.{word_of, words_of}
 
-pub line-len : (l : Line) → vec_len l.words ≡ length (line_of l).words
-line-len l = l.words.ok.0 ∙ sym (length-map (vec_items l.words) word_of)
+pub words_from : (r : Bor (List Word)) (ws : List Word) (i : ℕ) (o : Option (Bor (List Word))) → UnwrapsOrElse o (λ x. x.now ≡ []) r → IsGetRangeResult ws i (length ws) o → words_of r.now ≡ drop i (words_of ws)
+words_from r ws i (Some x) e got = ap words_of (ap (λ y. y.now) e ∙ got.0.2 ∙ take_rest ws i) ∙ sym (drop-map word_of i ws)
+words_from r ws i None e got = ap words_of (e ∙ sym (drop_all i ws (elim got.0 [ inl past ↦ omega arith | inr past ↦ omega arith ]))) ∙ sym (drop-map word_of i ws)
 
-pub line_word : (l : Line) (i : ℕ) (w : Word) → i < vec_len l.words → w ≡ get_or (vec_items l.words) i w → word_of w ≡ word_at (line_of l) i
-line_word l i w h e = ap word_of e ∙ sym (get_or-map word_of (vec_items l.words) i w _ (omega (arith, l.words.ok.0)))
-
-pub line-no-word : (l : Line) (i : ℕ) → vec_len l.words ≤ i → record { place = l.place; text = [] } ≡ word_at (line_of l) i
-line-no-word l i h = sym (get_or_past (line_of l).words i _ (omega (arith, line-len l)))
-
-pub line-is : (l : Line) (i : ℕ) (t : List ℕ) (w : Word) → i < vec_len l.words → w ≡ get_or (vec_items l.words) i w → bytes_eq w.text.now t ≡ is (line_of l) i t
-line-is l i t w h e = ap (λ x. bytes_eq x.text t) (line_word l i w h e) ∙ ap (λ b. b && bytes_eq (word_at (line_of l) i).text t) (sym (lt-ltb i (length (line_of l).words) (omega (arith, line-len l))))
-
-pub line-is-not : (l : Line) (i : ℕ) (t : List ℕ) → vec_len l.words ≤ i → false ≡ is (line_of l) i t
-line-is-not l i t h = ap (λ b. b && bytes_eq (word_at (line_of l) i).text t) (sym (le-ltb i (length (line_of l).words) (omega (arith, line-len l))))
-
-pub no_words : (l : Line) (i : ℕ) → vec_len l.words ≤ i → [] ≡ drop i (line_of l).words
-no_words l i h = sym (drop_all i (line_of l).words (omega (arith, line-len l)))
+pub words_up_to : (ws : Bor (List Word)) (most : ℕ) (o : Option (Bor (List Word))) → IsGetRangeResult ws.now 0 most o → words_of (unwrap_or o ws).now ≡ take most (words_of ws.now)
+words_up_to ws most (Some x) got = let all : most - 0 ≡ most = omega arith in ap words_of (got.0.2 ∙ ap (λ n. take n ws.now) all) ∙ sym (take-map word_of most ws.now)
+words_up_to ws most None got = ap words_of (sym (take_all most ws.now (elim got.0 [ inl past ↦ omega arith | inr past ↦ omega arith ]))) ∙ sym (take-map word_of most ws.now)

@@ -1,11 +1,12 @@
 -- The lines and words of a sheet, with the places at which they begin.
-use Rattle.std.specs.Prelude.{◌≡◌, ℕ, ◌+◌, ◌-◌, ◌<◌, ◌≤◌, Bool, true, false, cond, ◌&&◌, List, [], ◌∷◌, map, length, take, Ok, Err, vec_items, Result, Vec, ◌==◌, ◌≢◌, nat_le, nat_lt, slice_index, slice_index_or}
+use Rattle.std.specs.Prelude.{◌≡◌, ℕ, ◌+◌, ◌-◌, Bool, true, false, cond, ◌&&◌, List, [], ◌∷◌, map, length, take, Ok, Err, vec_items, Result, Vec, Option, Some, None, ◌==◌, nat_le, nat_lt, slice_index, slice_index_or}
 use Rattle.std.specs.declared.alloc.Global.{Global}
 use Rattle.lexer.specs.declared.Rule.{Rule}
 use Rattle.lexer.specs.declared.Rule.TheVariants as rule
 use Rattle.lexer.specs.declared.Rule.TheVariants.{Size, Spacing}
 use Rattle.lexer.specs.declared.Row.{Row}
 use Rattle.lexer.specs.declared.Row.TheVariants as row
+use Rattle.std.specs.List.{list_all, slice_split}
 use Rattle.std.specs.Str.{bytes_eq}
 use Rattle.lexer.specs.declared.Fault.{Fault}
 use Rattle.lexer.specs.declared.Declined.{Declined}
@@ -61,35 +62,21 @@ row_of rule.Twice = row.Sheet
 row_of rule.Back = row.Sheet
 
 -- the pieces of a text between separators, one more than there are separators
-abbrev pub onto : ℕ → List (List ℕ) → List (List ℕ)
-onto b [] = (b ∷ []) ∷ []
-onto b (w ∷ ws) = (b ∷ w) ∷ ws
-
 abbrev pub split : ℕ → List ℕ → List (List ℕ)
-split s [] = [] ∷ []
-split s (b ∷ bs) = cond (b == s) ([] ∷ split s bs) (onto b (split s bs))
-
--- the piece of a text that begins at a ends at b: at the first separator from a on, or at the text's end
-pub record Piece (s : ℕ) (xs : List ℕ) (a b : ℕ) : Type 0 where
-  pub low : a ≤ b
-  pub within : b ≤ length xs
-  pub before : (k : ℕ) → a ≤ k → k < b → slice_index xs k ≢ s
-  pub found : b < length xs → slice_index xs b ≡ s
+split s = slice_split (λ b. b == s)
 
 -- a visible byte, and a word: one such byte or more
 abbrev pub glyph : ℕ → Bool
 glyph b = nat_le 33 b && nat_le b 126
 
 abbrev pub glyphs : List ℕ → Bool
-glyphs [] = true
-glyphs (b ∷ bs) = glyph b && glyphs bs
+glyphs = list_all glyph
 
 abbrev pub is_word : List ℕ → Bool
 is_word w = nat_le 1 (length w) && glyphs w
 
 abbrev pub are_words : List (List ℕ) → Bool
-are_words [] = true
-are_words (w ∷ ws) = is_word w && are_words ws
+are_words = list_all is_word
 
 -- pieces with their places, where the first begins at `at` and one separator stands between two
 abbrev pub placed : ℕ → List (List ℕ) → List WordAt
@@ -111,6 +98,10 @@ lines_at at (l ∷ ls) =
 -- a text has 1 to 8192 bytes, the last of them LF
 abbrev pub sized : List ℕ → Bool
 sized text = nat_le 1 (length text) && nat_le (length text) 8192 && slice_index text (length text - 1) == 10
+
+-- such a text without its last byte
+abbrev pub body_of : List ℕ → Option (List ℕ)
+body_of text = cond (sized text) (Some (take (length text - 1) text)) None
 
 abbrev pub lexed : List ℕ → Result (List LineAt) Fault
 lexed text = cond (sized text) (lines_at 0 (split 10 (take (length text - 1) text))) (Err (record { rule = Size; place = 0 }))

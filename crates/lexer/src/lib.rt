@@ -1,13 +1,17 @@
 // A sheet's text cut into lines and words, each with its place, the number of the byte at which it begins.
 #![tactic(auto)]
 
-ghost use Rattle.std.specs.Prelude.{◌≡◌, ◌+◌, ◌^◌, ◌<◌, ◌≤◌, length, take, drop};
+ghost use Rattle.std.specs.Prelude.{◌≡◌, ◌+◌, ◌^◌, ◌<◌, [], length, take, drop, option_copied};
 ghost use Rattle.std.specs.Str.{bytes_eq};
-ghost use Rattle.lexer.specs.declared.Declined.TheVariants.{Memory};
+ghost use Rattle.lexer.specs.declared.Declined.TheVariants.{Fault as Faulty, Memory};
 ghost use Rattle.lexer.specs.Laws.{PrintableTexts};
-ghost use Rattle.lexer.specs.Text.{Piece, is_word, sized, Lexes, Words, is, is_only, word_of, word_at, words_of, line_of, number_of, row_of};
+ghost use Rattle.lexer.specs.Text.{glyphs, is_word, body_of, Lexes, Words, is, is_only, word_of, word_at, words_of, line_of, number_of, row_of};
 
+mod pieces;
+
+use pieces::Piece;
 use std::alloc::{AllocError, AllocFailed, Global};
+use thiserror::Error;
 
 const LF: u8 = 10;
 
@@ -15,20 +19,20 @@ const SPACE: u8 = 32;
 
 const LONGEST: usize = 8192;
 
-// What a reading is declined for.
+// What a reading is declined for, each by its number in the table of refusals.
 #[derive(Clone, Copy, Debug, PartialEq, Eq)]
 pub enum Rule {
-    Size,
-    Spacing,
-    Line,
-    Count,
-    NewName,
-    Word,
-    Length,
-    Variable,
-    Value,
-    Twice,
-    Back,
+    Size = 1,
+    Spacing = 2,
+    Line = 3,
+    Count = 4,
+    NewName = 5,
+    Word = 6,
+    Length = 7,
+    Variable = 8,
+    Value = 9,
+    Twice = 10,
+    Back = 11,
 }
 
 // The row of the table of refusals in which a rule stands.
@@ -46,19 +50,14 @@ impl Rule {
     pub fn number(self) -> u8
         ensures { result ≡ number_of self }
     {
-        match self {
-            Rule::Size => 1,
-            Rule::Spacing => 2,
-            Rule::Line => 3,
-            Rule::Count => 4,
-            Rule::NewName => 5,
-            Rule::Word => 6,
-            Rule::Length => 7,
-            Rule::Variable => 8,
-            Rule::Value => 9,
-            Rule::Twice => 10,
-            Rule::Back => 11,
-        }
+        self as u8
+    }
+
+    // That it is broken at a place.
+    pub fn at(self, place: usize) -> Declined
+        ensures { result ≡ Faulty (record { rule = self; place = place }) }
+    {
+        Declined::Fault(Fault { rule: self, place })
     }
 
     // The row of the table in which it stands.
@@ -76,19 +75,23 @@ impl Rule {
 }
 
 // A rule that is broken, and where.
-#[derive(Clone, Copy, Debug, PartialEq, Eq)]
+#[derive(Clone, Copy, Debug, PartialEq, Eq, Error)]
+#[error("{} at {place}", .rule.number())]
 pub struct Fault {
     pub rule: Rule,
     pub place: usize,
 }
 
 // Why nothing is read: a rule is broken, or memory is wanting, which comes only by way of `?` from calls that allocate.
-#[derive(Clone, Copy, Debug, PartialEq, Eq)]
+#[derive(Clone, Copy, Debug, PartialEq, Eq, Error)]
 pub enum Declined {
+    #[error("fault {0}")]
     Fault(Fault),
+    #[error("out of memory")]
     Memory,
 }
 
+// These two are by hand, since what a derive writes has no `from_gives`, which says what `?` makes.
 impl From<AllocError> for Declined {
     ghost from_gives = { λ _ r. r ≡ Memory };
 
@@ -120,23 +123,40 @@ pub struct Line<'a> {
     pub words: Vec<Word<'a>>,
 }
 
-// Whether the two are the same bytes.
-pub fn same(a: &[u8], b: &[u8]) -> bool
-    ensures { result ≡ bytes_eq a.now b.now }
-{
-    a == b
-}
-
 impl<'a> Word<'a> {
-    // Whether it is this word.
+    // Whether it is this word. A method, since `==` compares values of one type alone.
     pub fn is(self, text: &[u8]) -> bool
         ensures { result ≡ bytes_eq self.entry.text.now text.now }
     {
-        same(self.text, text)
+        self.text == text
+    }
+
+    // That a rule is broken at this word.
+    pub fn fault(self, rule: Rule) -> Declined
+        ensures { result ≡ Faulty (record { rule = rule; place = self.entry.place }) }
+    {
+        rule.at(self.place)
     }
 }
 
 impl<'a> Line<'a> {
+    // That a rule is broken at this line.
+    pub fn fault(&self, rule: Rule) -> Declined
+        ensures { result ≡ Faulty (record { rule = rule; place = self.now.place }) }
+    {
+        self.start().fault(rule)
+    }
+
+    // The empty word at its beginning.
+    fn start(&self) -> Word<'a>
+        ensures { word_of result ≡ record { place = self.now.place; text = [] } }
+    {
+        Word {
+            place: self.place,
+            text: b"",
+        }
+    }
+
     // How many words it has.
     pub fn len(&self) -> usize
         ensures { result ≡ length (line_of self.now).words }
@@ -148,45 +168,32 @@ impl<'a> Line<'a> {
     pub fn word(&self, i: usize) -> Word<'a>
         ensures { word_of result ≡ word_at (line_of self.now) i }
     {
-        if i < self.words.len() {
-            self.words[i]
-        } else {
-            Word {
-                place: self.place,
-                text: b"",
-            }
-        }
+        self.words.get(i).copied().unwrap_or(self.start())
     }
 
     // The words from `i` on.
     pub fn from(&self, i: usize) -> &[Word<'a>]
         ensures { words_of result.now ≡ drop i (line_of self.now).words }
     {
-        let words = self.words.as_slice();
-        if i < words.len() { &words[i..] } else { &[] }
+        self.words.get(i..).unwrap_or_default()
     }
 
     // At most so many words from `i` on.
+    #[tactic(auto, using(crate::proofs::Lines::words_up_to))]
     pub fn slice(&self, i: usize, most: usize) -> &[Word<'a>]
         ensures { words_of result.now ≡ take most (drop i (line_of self.now).words) }
     {
         let words = self.from(i);
-        if most < words.len() {
-            &words[0..most]
-        } else {
-            words
-        }
+        words.get(..most).unwrap_or(words)
     }
 
     // Whether the line has a word at `i`, and it is this one.
     pub fn is(&self, i: usize, text: &[u8]) -> bool
         ensures { result ≡ is (line_of self.now) i text.now }
     {
-        i < self.words.len() && self.words[i].is(text)
+        self.words.get(i).is_some_and(|word| word.is(text))
     }
-}
 
-impl<'a> Line<'a> {
     // Whether the line is this one word.
     pub fn is_only(&self, text: &[u8]) -> bool
         ensures { result ≡ is_only (line_of self.now) text.now }
@@ -195,97 +202,65 @@ impl<'a> Line<'a> {
     }
 }
 
-// The place of the first separator at or after `from`, or the end.
-fn find(text: &[u8], from: usize, separator: u8) -> usize
-    requires { from ≤ length text.now }
-    ensures { Piece separator text.now from result }
+// Nothing but glyphs, the visible bytes.
+fn are_glyphs(text: &[u8]) -> bool
+    ensures { result ≡ glyphs text.now }
 {
-    let mut i = from;
-    while i < text.len() && text[i] != separator {
-        i += 1;
-    }
-    i
+    text.iter().all(|b| matches!(b, 33..=126))
 }
 
 // One glyph or more, and nothing else.
 fn is_word(text: &[u8]) -> bool
     ensures { result ≡ is_word text.now }
 {
-    for b in text {
-        if *b < 33 || *b > 126 {
-            return false;
-        }
-    }
-    !text.is_empty()
+    !text.is_empty() && are_glyphs(text)
 }
 
-// The words of a line that begins at `place`, parted by one space.
-fn read_words<'a>(heap: Global, line: &'a [u8], place: usize) -> Result<Vec<Word<'a>>, Declined>
-    requires { place + length line.now < 2 ^ 64 }
-    ensures { Words place line.now result }
+// The words of a line, parted by one space.
+#[tactic(auto, using(crate::proofs::Sofar::texts_placed))]
+fn read_words<'a>(heap: Global, line: Piece<'a>) -> Result<Vec<Word<'a>>, Declined>
+    ensures { Words line.entry.place line.entry.text.now result }
 {
     let mut words = Vec::new(heap);
-    let mut start = 0;
-    loop {
-        let end = find(line, start, SPACE);
-        let text = &line[start..end];
+    for Piece { place, text } in line.split(SPACE) {
         if !is_word(text) {
-            return Err(Declined::Fault(Fault {
-                rule: Rule::Spacing,
-                place,
-            }));
+            return Err(Rule::Spacing.at(line.place));
         }
-        words.push(Word {
-            place: place + start,
-            text,
-        })?;
-        if end == line.len() {
-            return Ok(words);
-        }
-        start = end + 1;
+        words.push(Word { place, text })?;
     }
+    Ok(words)
 }
 
-// 1 to 8192 bytes, of which the last is LF.
-fn is_sized(text: &[u8]) -> bool
-    ensures { result ≡ sized text.now }
+// A text without the LF that ends it, where the text is of 1 to 8192 bytes.
+fn body_of(text: &[u8]) -> Option<&[u8]>
+    ensures { option_copied result ≡ body_of text.now }
 {
     match text {
-        [.., last] => text.len() <= LONGEST && *last == LF,
-        [] => false,
+        [body @ .., LF] if text.len() <= LONGEST => Some(body),
+        _ => None,
     }
 }
 
 // The lines of a text with their words, or the first rule of bytes that it breaks.
+#[tactic(auto, using(crate::proofs::Sofar::lines_of_placed))]
 pub fn read_lines<'a>(heap: Global, text: &'a [u8]) -> Result<Vec<Line<'a>>, Declined>
     ensures { Lexes text.now result }
 {
-    if !is_sized(text) {
-        return Err(Declined::Fault(Fault {
-            rule: Rule::Size,
-            place: 0,
-        }));
-    }
-    let body = &text[0..text.len() - 1];
+    let body = body_of(text).ok_or(Rule::Size.at(0))?;
     let mut lines = Vec::new(heap);
-    let mut start = 0;
-    loop {
-        let end = find(body, start, LF);
-        let text = &body[start..end];
-        let words = read_words(heap, text, start)?;
+    for line in Piece::whole(body).split(LF) {
+        let words = read_words(heap, line)?;
         lines.push(Line {
-            place: start,
-            text,
+            place: line.place,
+            text: line.text,
             words,
         })?;
-        if end == body.len() {
-            return Ok(lines);
-        }
-        start = end + 1;
     }
+    Ok(lines)
 }
 
 // A text that has lines is printable: 1 to 8,192 bytes, each of a line or its end.
+#[tactic(auto, using(crate::proofs::Shown::printable))]
 pub fn texts_are_printable()
     ensures { PrintableTexts }
 {}

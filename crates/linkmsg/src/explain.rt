@@ -1,26 +1,50 @@
 // What is said of one line.
-ghost use Rattle.linkmsg.specs.Explaining.{Explains};
+ghost use Rattle.std.specs.Prelude.{◌≡◌};
+ghost use Rattle.linkmsg.specs.Explaining.{Explains, unread, untold};
 
-use message::{WordsError, is_message, words};
+use hex_text::HexError;
+use message::{NotMessage, WordsError, words};
 use std::alloc::Global;
+use thiserror::Error;
 
-// The words of the message, that the bytes are no message, or that the line is no bytes.
-#[derive(Drop)]
-pub enum Answer {
-    Words(String),
-    Refused,
-    Unreadable,
+// Why a line has no words: it is no bytes, its bytes are no message, or memory is wanting.
+#[derive(Clone, Copy, PartialEq, Eq, Debug, Error)]
+pub enum Unanswered {
+    #[error("{}", HexError::NotBytes)]
+    NotBytes,
+    #[error("{}", NotMessage)]
+    NotMessage,
+    #[error("out of memory")]
+    NoMemory,
 }
 
-// What is said of a line that should have bytes in hexadecimal.
-pub fn explain(heap: Global, line: &[u8]) -> Result<Answer, WordsError>
+// By hand and not by thiserror, which does not say which error it makes.
+impl From<HexError> for Unanswered {
+    ghost from_gives = { λ error why. why ≡ unread error };
+
+    fn from(error: HexError) -> Unanswered {
+        match error {
+            HexError::NotBytes => Unanswered::NotBytes,
+            HexError::NoMemory => Unanswered::NoMemory,
+        }
+    }
+}
+
+impl From<WordsError> for Unanswered {
+    ghost from_gives = { λ error why. why ≡ untold error };
+
+    fn from(error: WordsError) -> Unanswered {
+        match error {
+            WordsError::NoMessage => Unanswered::NotMessage,
+            WordsError::NoMemory => Unanswered::NoMemory,
+        }
+    }
+}
+
+// The words of the message whose bytes a line has in hexadecimal.
+pub fn explain(heap: Global, line: &[u8]) -> Result<String, Unanswered>
     ensures { Explains line.now result }
 {
-    let Some(bytes) = hex_text::read(heap, line)? else {
-        return Ok(Answer::Unreadable);
-    };
-    if !is_message(&bytes) {
-        return Ok(Answer::Refused);
-    }
-    Ok(Answer::Words(words(heap, &bytes)?))
+    let bytes = hex_text::read(heap, line)?;
+    Ok(words(heap, &bytes)?)
 }

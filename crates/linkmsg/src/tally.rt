@@ -2,7 +2,8 @@
 ghost use Rattle.std.specs.Prelude.{◌≡◌};
 ghost use Rattle.linkmsg.specs.Counting.{counted, none};
 
-use super::explain::Answer;
+use super::explain::Unanswered;
+use std::fmt;
 
 // The lines so far, and how many of them came to each answer.
 #[derive(Clone, Copy)]
@@ -26,15 +27,31 @@ impl Tally {
         }
     }
 
-    // Counts a line with what was said of it.
-    pub fn count(&mut self, answer: &Answer)
+    // Counts a line with what was said of it. One that memory was wanting for is not counted.
+    pub fn count(&mut self, answer: &Result<String, Unanswered>)
         ensures { self.new ≡ counted self.old answer.now }
     {
-        self.lines = self.lines.saturating_add(1);
         match answer {
-            Answer::Words(_) => self.messages = self.messages.saturating_add(1),
-            Answer::Refused => self.refused = self.refused.saturating_add(1),
-            Answer::Unreadable => self.unreadable = self.unreadable.saturating_add(1),
+            Ok(_) => self.messages = self.messages.saturating_add(1),
+            Err(Unanswered::NotMessage) => self.refused = self.refused.saturating_add(1),
+            Err(Unanswered::NotBytes) => self.unreadable = self.unreadable.saturating_add(1),
+            Err(Unanswered::NoMemory) => return,
         }
+        self.lines = self.lines.saturating_add(1);
+    }
+}
+
+impl fmt::Display for Tally {
+    fn fmt<W: fmt::Write>(&self, f: &mut fmt::Formatter<W>) -> fmt::Result {
+        let Tally {
+            lines,
+            messages,
+            refused,
+            unreadable,
+        } = *self;
+        write!(
+            f,
+            "{lines} lines: {messages} messages, {refused} refused, {unreadable} unreadable"
+        )
     }
 }

@@ -1,7 +1,8 @@
 -- What is built from a set that taking apart does not leave is all that is generated from it.
-use Rattle.std.proofs.Common.{◌⊎◌, inl, inr, ⊎_elim}
+use Rattle.std.proofs.Common.{◌⊎◌, T, inl, inr, ⊎_elim}
 use Rattle.message.specs.Message.{Msg, agent, nonce, text, key, pair, seal}
 use Rattle.message.specs.Generates.{Generates, known, paired, left, right, sealed, opened, Builds, member, pairing, sealing, Closed}
+use Rattle.message.specs.Laws.{BuildingSuffices}
 
 module _ (S : Msg → Type 0) where
   -- how a message can have been built, by its shape
@@ -38,3 +39,6 @@ module _ (S : Msg → Type 0) where
   generated-built h (right {l = l} {r = r} p) = ⊎_elim (λ x. member (h.halves l r x).1) (λ x. x.1) (made (generated-built h p))
   generated-built h (sealed p q) = sealing (generated-built h p) (generated-built h q)
   generated-built h (opened {k = k} {m = m} p q) = ⊎_elim (λ x. member (h.content k m x (made (generated-built h q)))) (λ x. x.1) (made (generated-built h p))
+
+pub suffices : BuildingSuffices
+suffices has closed m = (λ g. generated-built (λ x. T (has x)) closed g, λ b. built-generated (λ x. T (has x)) b)

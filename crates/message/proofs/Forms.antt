@@ -1,5 +1,5 @@
 -- What a form at the front of some bytes looks like, from its first byte on.
-use Rattle.std.proofs.Common.{◌≡◌, ℕ, ◌+◌, ◌*◌, ◌/◌, ◌%◌, ◌<◌, ◌≤◌, ◌≢◌, List, [], ◌∷◌, ◌++◌, length, get_or, Some, None, Option, sym, refl, ap, ◌∙◌, subst, append_assoc, arith, length-append, take_all, Bor}
+use Rattle.std.proofs.Common.{◌≡◌, ℕ, ◌+◌, ◌*◌, ◌/◌, ◌%◌, ◌<◌, ◌≤◌, ◌≢◌, List, [], ◌∷◌, ◌++◌, length, get_or, Some, None, Option, sym, refl, ap, ◌∙◌, subst, append_assoc, arith, length-append, take_all, Fits as FitsIn, w8, Bor}
 use Rattle.std.specs.List.{between}
 use Rattle.std.proofs.lemmas.Slice.{first_rest}
 use Rattle.message.specs.Message.{shared, Msg, agent, nonce, text, key, pair, seal, two_bytes, wire, Fits}
@@ -9,6 +9,9 @@ use Rattle.message.proofs.Shapes.{Lettered, lettered, tail-is, unique, wire-is, 
 -- every element is a byte
 abbrev pub Small : List ℕ → Type 0
 Small bytes = (i : ℕ) → get_or bytes i 0 < 256
+
+pub small : (bytes : List ℕ) → ((i : ℕ) → FitsIn w8 (get_or bytes i 0)) → Small bytes
+small bytes f i = omega (arith, f i)
 
 -- ---- the first bytes of a list that is long enough
 

@@ -6,6 +6,7 @@ use Rattle.std.proofs.lemmas.Fmt.{decimal_is_IsNumeral, decimal_injective}
 use Rattle.std.proofs.lemmas.List.{append_cancel_left}
 use Rattle.std.proofs.lemmas.Str.Parse.{digit_from_value}
 use Rattle.message.specs.Message.{Key, shared, Msg, agent, nonce, text, key, pair, seal, KeyFits, Fits}
+use Rattle.message.specs.Laws.{TellingWords}
 use Rattle.message.specs.Words.{owners, words}
 use Rattle.message.proofs.Shapes.{tag, head-is, tail-is, Lettered, by-tag}
 
@@ -103,5 +104,5 @@ said (seal j m) k f g r s x y e =
     same-made (spaced owners words) (λ p. seal p.0 p.1) (codes "seal ") (λ p. refl) is (same-two owners words (same-owners j (shared c d) f.0 h.0) (said m n f.1 h.1)) r s x y e
 
 -- a message is known by its words
-pub same-words : (m k : Msg) → Fits m → Fits k → words m ≡ words k → m ≡ k
-same-words m k f g e = (said m k f g [] [] refl refl (ap (λ l. l ++ []) e)).0
+pub same_words : TellingWords
+same_words m k f g e = (said m k f g [] [] refl refl (ap (λ l. l ++ []) e)).0

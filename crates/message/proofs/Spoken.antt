@@ -2,11 +2,8 @@
 use Rattle.std.proofs.Common.{◌≡◌, ℕ, ◌<◌, List, ◌++◌, length, get_or, Ok, codes, decimal, sym, ap, ◌∙◌, subst, append_assoc, arith, length-append, Bor}
 use Rattle.message.specs.declared.read.Parts.{Parts}
 use Rattle.message.specs.declared.read.Parts.TheVariants.{Pair, Seal}
-use Rattle.message.specs.declared.tell.WordsError.{WordsError}
-use Rattle.message.specs.declared.tell.WordsError.TheVariants.{NoMessage, NoMemory}
-use Rattle.message.specs.Message.{Key, shared, Msg, pair, seal, key_bytes, wire, Reads, IsMessage}
+use Rattle.message.specs.Message.{Key, shared, Msg, pair, seal, key_bytes, wire, Reads}
 use Rattle.message.specs.Reading.{Splits}
-use Rattle.message.specs.Telling.{Refuses}
 use Rattle.message.specs.Words.{owners, words}
 use Rattle.message.proofs.Apart.{Halves, Opens}
 use Rattle.message.proofs.Shapes.{same-tree}
@@ -16,8 +13,8 @@ abbrev pub Told : List ℕ → List ℕ → List ℕ → Type 0
 Told bytes before after = (m : Msg) × Reads bytes m × (after ≡ before ++ words m)
 
 -- the words before a seal's content, by the bytes of its key
-pub seal-words : (bytes : List ℕ) (k : Key) → key_bytes k ≡ bytes → codes "seal " ++ (decimal (get_or bytes 1 0) ++ (codes " " ++ (decimal (get_or bytes 2 0) ++ codes " "))) ≡ codes "seal " ++ (owners k ++ codes " ")
-seal-words bytes (shared a b) e =
+pub seal_words : (bytes : List ℕ) (k : Key) → key_bytes k ≡ bytes → codes "seal " ++ (decimal (get_or bytes 1 0) ++ (codes " " ++ (decimal (get_or bytes 2 0) ++ codes " "))) ≡ codes "seal " ++ (owners k ++ codes " ")
+seal_words bytes (shared a b) e =
     let first : get_or bytes 1 0 ≡ a = ap (λ l. get_or l 1 0) (sym e) in
     let second : get_or bytes 2 0 ≡ b = ap (λ l. get_or l 2 0) (sym e) in
     (λ i. codes "seal " ++ (decimal (first i) ++ (codes " " ++ (decimal (second i) ++ codes " "))))
@@ -28,11 +25,6 @@ halved bytes p first second h e = subst (λ x. Splits bytes (Ok x)) e h
 
 pub opened : (bytes : List ℕ) (p : Parts) (k content : Bor (List ℕ)) → Splits bytes (Ok p) → p ≡ Seal k content → Opens bytes k.now content.now
 opened bytes p k content h e = subst (λ x. Splits bytes (Ok x)) e h
-
--- a part that is a message is refused only for want of memory, and so is then the whole
-pub refused-part : (part bytes : List ℕ) (e : WordsError) → IsMessage part → Refuses part e → Refuses bytes e
-refused-part part bytes NoMessage w none = absurd (none w)
-refused-part part bytes NoMemory w u = tt
 
 module _ (bytes first second : List ℕ) (h : Halves bytes first second) where
   pub first-shorter : length first < length bytes
@@ -55,11 +47,6 @@ module _ (bytes first second : List ℕ) (h : Halves bytes first second) where
       (m, w, all ∙ grouped ∙ ap (λ x. t0 ++ words x) (sym is))
 
 module _ (bytes k content : List ℕ) (h : Opens bytes k content) where
-  pub content-shorter : length content < length bytes
-  content-shorter =
-      let (m, w, (s, x, is, f, g)) = h in
-      omega (arith, simp length-append at (ap length (sym w.form ∙ ap wire is)), ap length g)
-
   pub seal-told : (t0 t1 t2 : List ℕ) → ((s : Key) → key_bytes s ≡ k → t1 ≡ t0 ++ (codes "seal " ++ (owners s ++ codes " "))) → Told content t1 t2 → Told bytes t0 t2
   seal-told t0 t1 t2 e1 (x', wx, e2) =
       let (m, w, (s, x, is, f, g)) = h in

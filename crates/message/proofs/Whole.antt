@@ -1,20 +1,18 @@
 -- Bytes that are a message, and those that only begin with one.
-use Rattle.std.proofs.Common.{◌≡◌, ℕ, ◌+◌, ◌-◌, ◌≤◌, List, [], ◌∷◌, ◌++◌, length, take, drop, Ok, Err, sym, refl, ap, ◌∙◌, append_assoc, append-nil, arith, length-append, take-append-drop, length-take, take_at}
+use Rattle.std.proofs.Common.{◌≡◌, ℕ, ◌+◌, ◌-◌, ◌≤◌, List, [], ◌++◌, length, take, drop, Ok, Err, sym, refl, ap, ◌∙◌, append_assoc, append-nil, arith, length-append, take-append-drop, length-take, take_at, Some, None, Option, Bool, false, MatchOption, Decides, eqb, eqb-true, eq-eqb, Bor}
+use borrow.Author.Tests.{clash}
 use lib.Seq.{take-append-add}
+use Rattle.std.proofs.lemmas.List.{nil_from_length}
 use Rattle.message.specs.Laws.{ReadBack}
 use Rattle.message.specs.Message.{wire, IsMessage}
-use Rattle.message.specs.Reading.{Begins}
+use Rattle.message.specs.Reading.{Begins, Leaves}
 use Rattle.message.proofs.Forms.{one-rest}
 use Rattle.message.proofs.Shapes.{unique}
-
-pub empty : {X : Type 0} (xs : List X) → length xs ≡ 0 → xs ≡ []
-empty [] e = refl
-empty (x ∷ xs) e = absurd (omega arith)
 
 -- the whole of the bytes is a message where nothing comes after it
 pub whole : (bytes rest : List ℕ) → length bytes ≤ 96 → Begins bytes rest → length rest ≡ 0 → IsMessage bytes
 whole bytes rest short b none =
-    let form = sym (append-nil (wire b.message)) ∙ ap (λ l. wire b.message ++ l) (sym (empty rest none)) ∙ b.splits in
+    let form = sym (append-nil (wire b.message)) ∙ ap (λ l. wire b.message ++ l) (sym (nil_from_length rest none)) ∙ b.splits in
     (b.message, record { fits = b.fits; form = form; short = short })
 
 abbrev pub begins : (bytes : List ℕ) → IsMessage bytes → Begins bytes []
@@ -22,6 +20,12 @@ begins bytes (m, w) = record { message = m; fits = w.fits; splits = append-nil (
 
 pub nothing_left : (bytes rest : List ℕ) → Begins bytes rest → IsMessage bytes → length rest ≡ 0
 nothing_left bytes rest b w = ap length (one-rest bytes rest [] b (begins bytes w))
+
+-- whether the bytes are a message, from what comes after the form at their front
+pub whole_told : (o : Option (Bor (List ℕ))) (bytes : List ℕ) (answer : Bool) → length bytes ≤ 96 → Leaves bytes o → MatchOption o (answer ≡ false) (λ rest. answer ≡ eqb (length rest.now) 0) → Decides answer (IsMessage bytes)
+whole_told None bytes answer short none told = (λ yes. absurd (clash (sym told ∙ yes)), λ w. absurd (none [] (begins bytes w)))
+whole_told (Some rest) bytes answer short b told =
+    (λ yes. whole bytes rest.now short b (eqb-true _ 0 (sym told ∙ yes)), λ w. told ∙ eq-eqb _ 0 (nothing_left bytes rest.now b w))
 
 -- A form within the first n bytes is a message at the front of all of them, where n is at most 96.
 module _ (bytes : List ℕ) (n : ℕ) where

@@ -10,7 +10,10 @@ mod tell;
 
 pub use buffer::Message;
 pub use read::{Front, Parts, is_message, read_front, same_message, take_apart};
+use short_bytes::Full;
+use std::num::TryFromIntError;
 pub use tell::{WordsError, words};
+use thiserror::Error;
 
 // The kinds of numbered atoms.
 #[derive(Clone, Copy, PartialEq, Eq, Debug)]
@@ -24,7 +27,8 @@ pub enum Kind {
 pub const MOST: usize = 96;
 
 // Why a call is declined: what it was given is no message.
-#[derive(Clone, Copy, PartialEq, Eq, Debug)]
+#[derive(Clone, Copy, PartialEq, Eq, Debug, Error)]
+#[error("refusal {}", self.number())]
 pub struct NotMessage;
 
 impl NotMessage {
@@ -36,12 +40,27 @@ impl NotMessage {
     }
 }
 
+// These two are by hand, since a derived conversion would keep its source, and `NotMessage` holds nothing.
+impl From<Full> for NotMessage {
+    fn from(_: Full) -> NotMessage {
+        NotMessage
+    }
+}
+
+impl From<TryFromIntError> for NotMessage {
+    fn from(_: TryFromIntError) -> NotMessage {
+        NotMessage
+    }
+}
+
 // Bytes are the form of at most one tree, and a form at the front determines the rest.
+#[tactic(auto, using(crate::proofs::Shapes::unique))]
 pub fn reading_is_unique()
     ensures { UniqueReading }
 {}
 
 // Every tree in range, within 96 bytes, is read back from its form.
+#[tactic(auto, using(crate::proofs::Whole::read_back))]
 pub fn forms_are_read_back()
     ensures { ReadBack }
 {}
@@ -52,11 +71,13 @@ pub fn parts_are_messages()
 {}
 
 // What is generated from a set that taking apart does not leave is built by pairing and sealing alone.
+#[tactic(auto, using(crate::proofs::Closure::suffices))]
 pub fn building_suffices()
     ensures { BuildingSuffices }
 {}
 
 // The words tell messages apart.
+#[tactic(auto, using(crate::proofs::Sayings::same_words))]
 pub fn words_tell_apart()
     ensures { TellingWords }
 {}

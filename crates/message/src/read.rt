@@ -30,28 +30,14 @@ fn after(bytes: &[u8]) -> Option<&[u8]>
     let [tag, body @ ..] = bytes else {
         return None;
     };
-    match *tag as char {
-        'A' => match body {
-            [_, rest @ ..] => Some(rest),
-            [] => None,
-        },
-        'N' | 'T' => match body {
-            [_, _, rest @ ..] => Some(rest),
-            _ => None,
-        },
-        'K' => match body {
-            [lesser, greater, rest @ ..] if lesser <= greater => Some(rest),
-            _ => None,
-        },
-        'P' => match after(body) {
-            Some(second) => after(second),
-            None => None,
-        },
-        'E' => match body {
-            [key, lesser, greater, content @ ..] if *key as char == 'K' && lesser <= greater =>
-                after(content),
-            _ => None,
-        },
+    match (*tag as char, body) {
+        ('A', [_, rest @ ..]) => Some(rest),
+        ('N' | 'T', [_, _, rest @ ..]) => Some(rest),
+        ('K', [lesser, greater, rest @ ..]) if lesser <= greater => Some(rest),
+        ('P', body) => after(after(body)?),
+        ('E', [key, lesser, greater, content @ ..]) if *key as char == 'K' && lesser <= greater => {
+            after(content)
+        }
         _ => None,
     }
 }
@@ -61,26 +47,16 @@ pub fn read_front(bytes: &[u8]) -> Result<Front<'_>, NotMessage>
     ensures { Fronts bytes.now result }
 {
     let window = &bytes[0..bytes.len().min(MOST)];
-    match after(window) {
-        Some(rest) => {
-            let (message, rest) = bytes.split_at(window.len() - rest.len());
-            Ok(Front { message, rest })
-        }
-        None => Err(NotMessage),
-    }
+    let rest = after(window).ok_or(NotMessage)?;
+    let (message, rest) = bytes.split_at(window.len() - rest.len());
+    Ok(Front { message, rest })
 }
 
 // Whether the bytes are a message, and nothing else.
 pub fn is_message(bytes: &[u8]) -> bool
     ensures { Decides result (IsMessage bytes.now) }
 {
-    if bytes.len() > MOST {
-        return false;
-    }
-    match after(bytes) {
-        Some(rest) => rest.is_empty(),
-        None => false,
-    }
+    bytes.len() <= MOST && after(bytes).is_some_and(<[u8]>::is_empty)
 }
 
 // Whether the two are the same message. What is no message is the same as nothing.
@@ -107,37 +83,20 @@ pub fn take_apart(bytes: &[u8]) -> Result<Parts<'_>, NotMessage>
     let [tag, body @ ..] = bytes else {
         return Err(NotMessage);
     };
-    match *tag as char {
-        'A' => match body {
-            [number, ..] => Ok(Parts::Agent(*number)),
-            [] => Err(NotMessage),
-        },
-        'N' => match body {
-            [high, low, ..] => Ok(Parts::Nonce(number(*high, *low))),
-            _ => Err(NotMessage),
-        },
-        'T' => match body {
-            [high, low, ..] => Ok(Parts::Text(number(*high, *low))),
-            _ => Err(NotMessage),
-        },
-        'K' => match body {
-            [lesser, greater, ..] => Ok(Parts::Key(*lesser, *greater)),
-            _ => Err(NotMessage),
-        },
-        'P' => match after(body) {
-            Some(second) => {
-                let first = &body[0..body.len() - second.len()];
-                Ok(Parts::Pair { first, second })
-            }
-            None => Err(NotMessage),
-        },
-        'E' => match body {
-            [_, _, _, content @ ..] => Ok(Parts::Seal {
-                key: &body[0..3],
-                content,
-            }),
-            _ => Err(NotMessage),
-        },
+    match (*tag as char, body) {
+        ('A', [number, ..]) => Ok(Parts::Agent(*number)),
+        ('N', [high, low, ..]) => Ok(Parts::Nonce(number(*high, *low))),
+        ('T', [high, low, ..]) => Ok(Parts::Text(number(*high, *low))),
+        ('K', [lesser, greater, ..]) => Ok(Parts::Key(*lesser, *greater)),
+        ('P', body) => {
+            let second = after(body).ok_or(NotMessage)?;
+            let first = &body[0..body.len() - second.len()];
+            Ok(Parts::Pair { first, second })
+        }
+        ('E', [_, _, _, content @ ..]) => Ok(Parts::Seal {
+            key: &body[0..3],
+            content,
+        }),
         _ => Err(NotMessage),
     }
 }

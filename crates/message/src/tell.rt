@@ -7,14 +7,19 @@ use super::NotMessage;
 use super::read::{Parts, take_apart};
 use std::alloc::{AllocError, Global};
 use std::fmt;
+use thiserror::Error;
 
 // Why no words are told. Want of memory comes only by way of `?`, from the calls that extend the text.
-#[derive(Clone, Copy, PartialEq, Eq, Debug)]
+#[derive(Clone, Copy, PartialEq, Eq, Debug, Error)]
 pub enum WordsError {
+    #[error("{}", NotMessage)]
     NoMessage,
+    #[error("out of memory")]
     NoMemory,
 }
 
+// By hand and not by thiserror, which does not say which error it makes.
+// These three are by hand, since what a derive writes has no `from_gives`, which says what `?` makes.
 impl From<NotMessage> for WordsError {
     ghost from_gives = { λ _ r. r ≡ NoMessage };
 
@@ -49,11 +54,11 @@ pub fn words(heap: Global, bytes: &[u8]) -> Result<String, WordsError>
 }
 
 // Puts the words of a message behind the text. It calls itself for the parts, of which a message has few.
+// No Display says this: it fails only where its writer does, while bytes may be no message.
 fn push_words(text: &mut String, bytes: &[u8]) -> Result<(), WordsError>
     ensures { Pushes bytes.now (string_bytes text.old) (string_bytes text.new) result }
 {
-    let parts = take_apart(bytes)?;
-    match parts {
+    match take_apart(bytes)? {
         Parts::Agent(number) => write!(text, "agent {number}")?,
         Parts::Nonce(number) => write!(text, "nonce {number}")?,
         Parts::Text(number) => write!(text, "text {number}")?,
@@ -73,6 +78,7 @@ fn push_words(text: &mut String, bytes: &[u8]) -> Result<(), WordsError>
 }
 
 // Puts the words before a seal's content behind the text, from the bytes of its key.
+#[tactic(auto, using(crate::proofs::Spoken::seal_words))]
 fn push_seal(text: &mut String, key: &[u8]) -> Result<(), WordsError>
     ensures { SealPushes key.now (string_bytes text.old) (string_bytes text.new) result }
 {

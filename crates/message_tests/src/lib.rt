@@ -65,8 +65,7 @@ mod tests {
     ];
 
     fn bytes_of(heap: Global, text: &str) -> Result<Vec<u8>, Fail> {
-        let bytes = hex_text::read(heap, text.as_bytes())?.ok_or("no bytes")?;
-        Ok(bytes)
+        Ok(hex_text::read(heap, text.as_bytes())?)
     }
 
     // That the bytes are refused by every call that reads a message.
@@ -141,10 +140,10 @@ mod tests {
         built.key(5, 2)?;
         built.seal(1, 0)?;
         built.pair()?;
-        built.agent(255)?;
+        built.atom(Kind::Agent, 255)?;
         built.pair()?;
-        built.nonce(258)?;
-        built.text(65535)?;
+        built.atom(Kind::Nonce, 258)?;
+        built.atom(Kind::Text, 65535)?;
         assert_eq!(rt;
             built.as_bytes(),
             b"PK\x02\x05EK\x00\x01PA\xFFPN\x01\x02T\xFF\xFF".as_slice()
@@ -156,7 +155,7 @@ mod tests {
     fn refuses_numbers_out_of_range(rt: HostRuntime) -> Result<(), Fail> {
         let mut built = Message::new();
         built.pair()?;
-        assert_eq!(rt; built.agent(256), Err(NotMessage));
+        assert_eq!(rt; built.atom(Kind::Agent, 256), Err(NotMessage));
         assert_eq!(rt; built.key(0, 256), Err(NotMessage));
         assert_eq!(rt; built.key(256, 0), Err(NotMessage));
         assert_eq!(rt; built.seal(65535, 255), Err(NotMessage));
@@ -167,7 +166,7 @@ mod tests {
     // That 94 bytes that lack one atom take an agent and then nothing more; and no nonce, whose last byte would be the 97th.
     fn check_ends_at_96(rt: &impl Abort, heap: Global, started: Message) -> Result<(), Fail> {
         let mut full = started;
-        full.agent(2)?;
+        full.atom(Kind::Agent, 2)?;
         assert_eq!(rt; full.as_bytes().len(), 96);
         assert!(rt; is_message(full.as_bytes()));
         let mut bytes = full.as_bytes().to_vec(heap)?;
@@ -177,7 +176,7 @@ mod tests {
         assert_eq!(rt; full.as_bytes().len(), 96);
 
         let mut over = started;
-        assert_eq!(rt; over.nonce(2), Err(NotMessage));
+        assert_eq!(rt; over.atom(Kind::Nonce, 2), Err(NotMessage));
         assert_eq!(rt; over.as_bytes(), started.as_bytes());
         let mut bytes = started.as_bytes().to_vec(heap)?;
         bytes.extend_from_slice(b"N\x00\x02")?;
@@ -191,10 +190,10 @@ mod tests {
         let mut built = Message::new();
         for number in 0..30 {
             built.pair()?;
-            built.agent(number)?;
+            built.atom(Kind::Agent, number)?;
         }
         built.pair()?;
-        built.nonce(1)?;
+        built.atom(Kind::Nonce, 1)?;
         check_ends_at_96(&rt, rt.alloc(), built)
     }
 
@@ -206,7 +205,7 @@ mod tests {
         }
         for number in 0..2 {
             built.pair()?;
-            built.agent(number)?;
+            built.atom(Kind::Agent, number)?;
         }
         check_ends_at_96(&rt, rt.alloc(), built)
     }

@@ -1,87 +1,75 @@
 // rehearsal: reads a sheet from standard input and tells what it says, or its first fault.
 #![tactic(auto)]
 
-use anyhow::anyhow;
 use lexer::Declined;
 use sheet::{Contents, Sheet};
+use std::fmt;
 use std::io::Read;
-use std::str::from_utf8;
-use terms::{Agent, Name, Role, Sort};
+use terms::{Agent, Role, Sort};
 
 // No sheet has more bytes.
 const MOST_BYTES: u64 = 8192;
-
-// The name as text. All its letters are ASCII.
-fn text_of(name: &Name) -> &str {
-    match from_utf8(name.as_bytes()) {
-        Ok(text) => text,
-        Err(_) => "",
-    }
-}
-
-// The name of the agent that alone plays the role, or `any`.
-fn player<'a>(agents: &'a [Agent], role: &Role) -> &'a str {
-    match role.player {
-        Some(i) if i < agents.len() => text_of(&agents[i].name),
-        _ => "any",
-    }
-}
 
 // How the variable of this number, of this sort, gets what it stands for.
 fn origin(role: &Role, variable: usize, sort: Sort) -> &'static str {
     match sort {
         Sort::Fresh => "fresh",
-        Sort::Plain(_) => {
-            if role.is_received(variable) {
-                "received"
-            } else {
-                "chosen"
-            }
-        }
+        Sort::Plain(_) if role.is_received(variable) => "received",
+        Sort::Plain(_) => "chosen",
     }
 }
 
-fn tell_variables(rt: &HostRuntime, role: &Role) -> anyhow::Result<()> {
-    if role.variables.is_empty() {
-        print!(rt; "no variables")?;
-    }
-    for (i, variable) in role.variables.iter().enumerate() {
-        if i > 0 {
-            print!(rt; ", ")?;
-        }
-        print!(rt;
-            "{} {}",
-            text_of(&variable.name),
-            origin(role, i, variable.sort)
-        )?;
-    }
-    Ok(())
+// A role as it is told: who plays it, its variables, and how many steps it has.
+#[derive(Clone, Copy)]
+struct ToldRole<'a> {
+    agents: &'a [Agent],
+    role: &'a Role,
 }
 
-// Who plays the role, its variables, and how many steps it has.
-fn tell_role(rt: &HostRuntime, agents: &[Agent], role: &Role) -> anyhow::Result<()> {
-    print!(rt;
-        "role {}, played by {}: ",
-        text_of(&role.name),
-        player(agents, role)
-    )?;
-    tell_variables(rt, role)?;
-    println!(rt; "; {} steps", role.steps.len())?;
-    Ok(())
+impl<'a> ToldRole<'a> {
+    // The agent that alone plays the role.
+    fn player(&self) -> Option<&'a Agent> {
+        self.role.player.and_then(|i| self.agents.get(i))
+    }
+
+    fn write_variables<W: fmt::Write>(&self, f: &mut fmt::Formatter<W>) -> fmt::Result {
+        if self.role.variables.is_empty() {
+            f.write_str("no variables")?;
+        }
+        for (i, variable) in self.role.variables.iter().enumerate() {
+            let separator = if i > 0 { ", " } else { "" };
+            let origin = origin(self.role, i, variable.sort);
+            write!(f, "{separator}{} {origin}", variable.name)?;
+        }
+        Ok(())
+    }
+}
+
+impl<'a> fmt::Display for ToldRole<'a> {
+    fn fmt<W: fmt::Write>(&self, f: &mut fmt::Formatter<W>) -> fmt::Result {
+        write!(f, "role {}, played by ", self.role.name)?;
+        match self.player() {
+            Some(agent) => write!(f, "{}: ", agent.name)?,
+            None => f.write_str("any: ")?,
+        }
+        self.write_variables(f)?;
+        write!(f, "; {} steps", self.role.steps.len())
+    }
 }
 
 // What the sheet says in short.
 fn tell(rt: &HostRuntime, contents: &Contents) -> anyhow::Result<()> {
-    let agents = contents.agents.len();
-    let texts = contents.texts.len();
-    let roles = contents.roles.len();
-    let nonces = contents.nonces.len();
-    let known = contents.known.len();
     println!(rt;
-        "sheet read: {agents} agents, {texts} texts, {roles} roles, {nonces} nonces, {known} known"
+        "sheet read: {} agents, {} texts, {} roles, {} nonces, {} known",
+        contents.agents.len(),
+        contents.texts.len(),
+        contents.roles.len(),
+        contents.nonces.len(),
+        contents.known.len()
     )?;
-    for role in contents.roles.iter() {
-        tell_role(rt, contents.agents.as_slice(), role)?;
+    for role in &contents.roles {
+        let agents = contents.agents.as_slice();
+        println!(rt; "{}", ToldRole { agents, role })?;
     }
     Ok(())
 }
@@ -93,16 +81,14 @@ fn run(rt: &HostRuntime) -> anyhow::Result<()> {
     let mut sheet = Sheet::new(rt.alloc());
     match sheet.read(text.as_slice()) {
         Ok(()) => {}
-        Err(Declined::Fault(fault)) => {
-            println!(rt; "fault {} at {}", fault.rule.number(), fault.place)?;
-            return Ok(());
-        }
-        Err(Declined::Memory) => return Err(anyhow!("out of memory")),
+        Err(declined @ Declined::Fault(_)) => println!(rt; "{declined}")?,
+        Err(declined @ Declined::Memory) => return Err(declined.into()),
     }
-    match sheet.contents() {
-        Some(contents) => tell(rt, contents),
-        None => Ok(()),
+    // A sheet that is not read is empty.
+    if let Some(contents) = sheet.contents() {
+        tell(rt, contents)?;
     }
+    Ok(())
 }
 
 fn main(rt: HostRuntime) -> anyhow::Result<()> {

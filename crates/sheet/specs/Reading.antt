@@ -72,13 +72,17 @@ kind_of w =
     (cond (bytes_eq w (codes "nonce")) (Some kind.Nonce)
     (cond (bytes_eq w (codes "text")) (Some kind.Text) None))
 
+-- `var NAME KIND` or `free NAME KIND`, where so many are declared already and the name is new
+abbrev pub plain_line : ℕ → Bool → LineAt → Result model.Variable Fault
+plain_line declared new l =
+    unless (length l.words == 3) rule.Line l.place
+    (unless (nat_lt declared 5) rule.Count l.place
+    (unless new rule.NewName (word_at l 1).place
+    (and_then (or_fault (kind_of (word_at l 2).text) rule.Word (word_at l 2).place) (λ k. Ok (record { name = (word_at l 1).text; sort = Plain k })))))
+
 -- `var NAME KIND` and `fresh NAME`, at most five in a role
 abbrev pub var_line : Cast → Script → LineAt → Result model.Variable Fault
-var_line c s l =
-    unless (length l.words == 3) rule.Line l.place
-    (unless (nat_lt (length s.variables) 5) rule.Count l.place
-    (unless (new_variable c s (word_at l 1).text) rule.NewName (word_at l 1).place
-    (and_then (or_fault (kind_of (word_at l 2).text) rule.Word (word_at l 2).place) (λ k. Ok (record { name = (word_at l 1).text; sort = Plain k })))))
+var_line c s l = plain_line (length s.variables) (new_variable c s (word_at l 1).text) l
 
 abbrev pub fresh_line : Cast → Script → LineAt → Result model.Variable Fault
 fresh_line c s l =
@@ -88,15 +92,16 @@ fresh_line c s l =
     (Ok (record { name = (word_at l 1).text; sort = Fresh }))))
 
 -- `send TERM`, `recv TERM` and `sig WORD ATOMS`, at most eight in a role
-abbrev pub send_line : Cast → Script → LineAt → Result model.Step Fault
-send_line c s l =
+abbrev pub term_line : Cast → Script → LineAt → Result (List Node) Fault
+term_line c s l =
     unless (nat_lt (length s.steps) 8) rule.Count l.place
-    (and_then (read_term (script_scope c s) l.place (drop 1 l.words)) (λ ns. Ok (model.send ns)))
+    (read_term (script_scope c s) l.place (drop 1 l.words))
+
+abbrev pub send_line : Cast → Script → LineAt → Result model.Step Fault
+send_line c s l = and_then (term_line c s l) (λ ns. Ok (model.send ns))
 
 abbrev pub recv_line : Cast → Script → LineAt → Result model.Step Fault
-recv_line c s l =
-    unless (nat_lt (length s.steps) 8) rule.Count l.place
-    (and_then (read_term (script_scope c s) l.place (drop 1 l.words)) (λ ns. Ok (model.receive ns)))
+recv_line c s l = and_then (term_line c s l) (λ ns. Ok (model.receive ns))
 
 abbrev pub few_atoms : ℕ → Bool
 few_atoms n = nat_le 1 n && nat_le n 4
@@ -173,11 +178,7 @@ claim_line c claim l =
 
 -- `free NAME KIND`, at most five
 abbrev pub free_line : Cast → Table → LineAt → Result model.Variable Fault
-free_line c t l =
-    unless (length l.words == 3) rule.Line l.place
-    (unless (nat_lt (length t.free) 5) rule.Count l.place
-    (unless (new_free c t (word_at l 1).text) rule.NewName (word_at l 1).place
-    (and_then (or_fault (kind_of (word_at l 2).text) rule.Word (word_at l 2).place) (λ k. Ok (record { name = (word_at l 1).text; sort = Plain k })))))
+free_line c t l = plain_line (length t.free) (new_free c t (word_at l 1).text) l
 
 -- `rank V ATOM`, at most twelve: a named nonce or text, or the key of two named agents
 abbrev pub rank_shape : LineAt → Bool

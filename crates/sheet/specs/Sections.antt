@@ -119,15 +119,19 @@ in_roles d l =
     (cond (is_only l (codes "nonces")) (too_few l)
     (misplaced l))
 
+-- a step, with the words of its line in which variables may stand, and whether it receives
+abbrev pub stepped : Draft → model.Step → List WordAt → Bool → Draft
+stepped d x ws received = script_at d part.Steps d.cast (more_step d.script x ws received)
+
 -- a step of each sort
 abbrev pub send_on : Draft → LineAt → Result Draft Fault
-send_on d l = and_then (send_line d.cast d.script l) (λ x. Ok (script_at d part.Steps d.cast (more_step d.script x (drop 1 l.words) false)))
+send_on d l = and_then (send_line d.cast d.script l) (λ x. Ok (stepped d x (drop 1 l.words) false))
 
 abbrev pub recv_on : Draft → LineAt → Result Draft Fault
-recv_on d l = and_then (recv_line d.cast d.script l) (λ x. Ok (script_at d part.Steps d.cast (more_step d.script x (drop 1 l.words) true)))
+recv_on d l = and_then (recv_line d.cast d.script l) (λ x. Ok (stepped d x (drop 1 l.words) true))
 
 abbrev pub sig_on : Draft → LineAt → Result Draft Fault
-sig_on d l = and_then (sig_line d.cast d.script l) (λ x. Ok (script_at d part.Steps d.cast (more_step d.script x (drop 2 l.words) false)))
+sig_on d l = and_then (sig_line d.cast d.script l) (λ x. Ok (stepped d x (drop 2 l.words) false))
 
 -- a step; otherwise what else the line may be
 abbrev pub step_or : Draft → LineAt → Result Draft Fault → Result Draft Fault

@@ -1,24 +1,21 @@
 // Who and what has a name on the sheet: agents, texts, roles and nonces.
-ghost use Rattle.std.specs.Prelude.{◌≡◌, map, length, nat_lt};
-ghost use Rattle.lexer.specs.Text.{line_of};
+ghost use Rattle.std.specs.Prelude.{◌≡◌, ◌&&◌, ◌||◌, not, map};
+ghost use Rattle.lexer.specs.Text.{line_of, word_of};
 ghost use Rattle.sheet.specs.Drafts.{named_scope, new_name, taken, variable_above};
-ghost use Rattle.terms.specs.Terms.{has, role_names};
-ghost use Rattle.sheet.specs.Kept.{cast_of, title_of};
-ghost use Rattle.terms.specs.Names.{index_of, letters};
-ghost use Rattle.terms.specs.Outcomes.{Gives, Reads};
-ghost use Rattle.sheet.specs.Reading.{agent_line, agent_shape, honest, fresh_among, fresh_in, fresh_sort, fresh_variable, kind_of, may_play, nonce_line, playable, played_by, player_of, text_line, title_line};
+ghost use Rattle.sheet.specs.Kept.{Names, cast_of, title_of};
+ghost use Rattle.terms.specs.Names.{index_of, is_name, letters};
+ghost use Rattle.terms.specs.Outcomes.{Reads};
+ghost use Rattle.sheet.specs.Reading.{agent_line, agent_shape, honest, fresh_among, fresh_in, fresh_variable, kind_of, may_play, nonce_line, playable, played_by, player_of, text_line, title_line};
+ghost use Rattle.sheet.specs.Sections.{no_cast};
 ghost use Rattle.terms.specs.Scopes.{scope_of};
 ghost use Rattle.terms.specs.Stored.{agent_of, nonce_of, role_of, variable_of};
-ghost use Rattle.terms.specs.Terms.{agent_names, variable_names};
+ghost use Rattle.terms.specs.Terms.{agent_names, has, role_names, variable_names};
 ghost use Rattle.std.specs.List.{slice_get};
 
-use lexer::{Declined, Line, Rule, same};
+use lexer::{Declined, Line, Rule, Word};
 use message::Kind;
 use std::alloc::Global;
-use terms::{
-    Agent, Name, Nonce, Role, Scope, Sort, Variable, decline, expect, find_agent, find_nonce,
-    find_role, find_text, find_variable, is_name,
-};
+use terms::{Agent, Name, Nonce, Role, Scope, Sort, Variable, find, is_name};
 
 const MOST_AGENTS: usize = 6;
 
@@ -42,63 +39,54 @@ pub struct Cast {
     pub nonces: Vec<Nonce>,
 }
 
-// The kind that a word names.
+// The kind that a word names. Neither type is of this crate, so no `TryFrom` can say it here.
 pub fn read_kind(word: &[u8]) -> Option<Kind>
     ensures { result ≡ kind_of word.now }
 {
-    if same(word, b"agent") {
-        return Some(Kind::Agent);
-    }
-    if same(word, b"nonce") {
-        return Some(Kind::Nonce);
-    }
-    if same(word, b"text") {
-        Some(Kind::Text)
-    } else {
-        None
+    match word {
+        b"agent" => Some(Kind::Agent),
+        b"nonce" => Some(Kind::Nonce),
+        b"text" => Some(Kind::Text),
+        _ => None,
     }
 }
 
-fn has_variable(role: &Role, word: &[u8]) -> bool
-    ensures { result ≡ has (variable_names (role_of role.now).variables) word.now }
+// The word as a name, if it may be one and nothing else has it.
+pub fn new_name(word: Word, taken: bool) -> Result<Name, Declined>
+    ensures { Names (is_name word.entry.text.now && not taken) (word_of word.entry) result }
 {
-    find_variable(role.variables.as_slice(), word).is_some()
+    if !is_name(word.text) || taken {
+        return Err(word.fault(Rule::NewName));
+    }
+    Ok(Name::new(word.text))
 }
 
 // Whether some role has a variable of this name.
 fn is_variable_above(roles: &[Role], word: &[u8]) -> bool
     ensures { result ≡ variable_above (map role_of roles.now) word.now }
 {
-    for role in roles {
-        if has_variable(role, word) {
-            return true;
-        }
-    }
-    false
+    roles.iter().any(|role| has_variable(role, word))
 }
 
-fn is_sort_fresh(sort: Sort) -> bool
-    ensures { result ≡ fresh_sort sort }
+fn has_variable(role: &Role, word: &[u8]) -> bool
+    ensures { result ≡ has (variable_names (role_of role.now).variables) word.now }
 {
-    matches!(sort, Sort::Fresh)
-}
-
-fn is_fresh(variables: &[Variable], i: usize) -> bool
-    ensures { result ≡ fresh_variable (slice_get (map variable_of variables.now) i) }
-{
-    i < variables.len() && is_sort_fresh(variables[i].sort)
+    find(role.variables.as_slice(), word).is_some()
 }
 
 // The fresh variable of this name.
 fn find_fresh_among(variables: &[Variable], word: &[u8]) -> Option<usize>
     ensures { result ≡ fresh_among (map variable_of variables.now) word.now }
 {
-    let i = find_variable(variables, word)?;
-    if is_fresh(variables, i) {
-        Some(i)
-    } else {
-        None
-    }
+    find(variables, word).filter(|i| is_fresh(variables, *i))
+}
+
+fn is_fresh(variables: &[Variable], i: usize) -> bool
+    ensures { result ≡ fresh_variable (slice_get (map variable_of variables.now) i) }
+{
+    variables
+        .get(i)
+        .is_some_and(|variable| variable.sort == Sort::Fresh)
 }
 
 // `agent NAME` or `agent NAME enemy`
@@ -109,7 +97,21 @@ fn has_agent_shape(line: &Line) -> bool
 }
 
 impl Cast {
+    // Nothing has a name yet.
+    #[tactic(auto, unfolding(crate::specs::Kept::cast_of))]
+    pub fn new(heap: Global) -> Cast
+        ensures { cast_of result ≡ no_cast }
+    {
+        Cast {
+            agents: Vec::new(heap),
+            texts: Vec::new(heap),
+            roles: Vec::new(heap),
+            nonces: Vec::new(heap),
+        }
+    }
+
     // What a word may stand for where nothing but names may stand.
+    #[tactic(auto, unfolding(crate::specs::Kept::cast_of))]
     pub fn scope(&self) -> Scope<'_>
         ensures { scope_of result ≡ named_scope (cast_of self.now) }
     {
@@ -123,87 +125,68 @@ impl Cast {
     }
 
     // Whether an agent, text, role or nonce has this name.
+    #[tactic(auto, unfolding(crate::specs::Kept::cast_of, crate::specs::Drafts::taken))]
     pub fn is_taken(&self, word: &[u8]) -> bool
         ensures { result ≡ taken (cast_of self.now) word.now }
     {
-        find_agent(self.agents.as_slice(), word).is_some()
-            || find_text(self.texts.as_slice(), word).is_some()
-            || find_role(self.roles.as_slice(), word).is_some()
-            || find_nonce(self.nonces.as_slice(), word).is_some()
+        find(self.agents.as_slice(), word).is_some()
+            || find(self.texts.as_slice(), word).is_some()
+            || find(self.roles.as_slice(), word).is_some()
+            || find(self.nonces.as_slice(), word).is_some()
     }
 
-    // Whether an agent, text, role or nonce may get this name.
-    fn is_new(&self, word: &[u8]) -> bool
-        ensures { result ≡ new_name (cast_of self.now) word.now }
+    // Whether that, or some role has a variable of this name.
+    #[tactic(auto, unfolding(crate::specs::Kept::cast_of))]
+    fn is_taken_above(&self, word: &[u8]) -> bool
+        ensures { result ≡ (taken (cast_of self.now) word.now || variable_above (cast_of self.now).roles word.now) }
     {
-        is_name(word) && !(self.is_taken(word) || is_variable_above(self.roles.as_slice(), word))
+        self.is_taken(word) || is_variable_above(self.roles.as_slice(), word)
     }
 
-    // The name that the word gives, if it is a new one.
-    fn new_name(&self, word: &[u8]) -> Option<Name>
-        ensures { Gives (new_name (cast_of self.now) word.now) word.now result }
+    // The name that a new agent, text, role or nonce gets.
+    #[tactic(auto, unfolding(crate::specs::Drafts::new_name))]
+    fn new_name(&self, word: Word) -> Result<Name, Declined>
+        ensures { Names (new_name (cast_of self.now) word.entry.text.now) (word_of word.entry) result }
     {
-        if self.is_new(word) {
-            Some(Name::new(word))
-        } else {
-            None
-        }
-    }
-
-    // Whether there is room for one more agent, text and nonce.
-    fn has_agent_room(&self) -> bool
-        ensures { result ≡ nat_lt (length (cast_of self.now).agents) 6 }
-    {
-        self.agents.len() < MOST_AGENTS
-    }
-
-    fn has_text_room(&self) -> bool
-        ensures { result ≡ nat_lt (length (cast_of self.now).texts) 6 }
-    {
-        self.texts.len() < MOST_TEXTS
-    }
-
-    fn has_nonce_room(&self) -> bool
-        ensures { result ≡ nat_lt (length (cast_of self.now).nonces) 6 }
-    {
-        self.nonces.len() < MOST_NONCES
+        new_name(word, self.is_taken_above(word.text))
     }
 
     // The agent of this name.
+    #[tactic(auto, unfolding(crate::specs::Kept::cast_of))]
     fn find_agent(&self, word: &[u8]) -> Option<usize>
         ensures { result ≡ index_of (agent_names (cast_of self.now).agents) word.now }
     {
-        find_agent(self.agents.as_slice(), word)
+        find(self.agents.as_slice(), word)
     }
 
     // The role of this name.
+    #[tactic(auto, unfolding(crate::specs::Kept::cast_of))]
     fn find_role(&self, word: &[u8]) -> Option<usize>
         ensures { result ≡ index_of (role_names (cast_of self.now).roles) word.now }
     {
-        find_role(self.roles.as_slice(), word)
+        find(self.roles.as_slice(), word)
     }
 
     // Whether the agent is an honest one.
+    #[tactic(auto, unfolding(crate::specs::Kept::cast_of))]
     fn is_honest(&self, agent: usize) -> bool
         ensures { result ≡ honest (slice_get (cast_of self.now).agents agent) }
     {
-        agent < self.agents.len() && !self.agents[agent].enemy
+        self.agents.get(agent).is_some_and(|agent| !agent.enemy)
     }
 
     // `agent NAME` or `agent NAME enemy`
+    #[tactic(auto, unfolding(crate::specs::Kept::cast_of))]
     pub fn read_agent(&self, line: &Line) -> Result<Agent, Declined>
         ensures { Reads agent_of (agent_line (cast_of self.now) (line_of line.now)) result }
     {
         if !has_agent_shape(line) {
-            return decline(Rule::Line, line.place);
+            return Err(line.fault(Rule::Line));
         }
-        if !self.has_agent_room() {
-            return decline(Rule::Count, line.place);
+        if self.agents.len() >= MOST_AGENTS {
+            return Err(line.fault(Rule::Count));
         }
-        let word = line.word(1);
-        let Some(name) = self.new_name(word.text) else {
-            return decline(Rule::NewName, word.place);
-        };
+        let name = self.new_name(line.word(1))?;
         Ok(Agent {
             name,
             enemy: line.len() == 3,
@@ -211,19 +194,17 @@ impl Cast {
     }
 
     // `text NAME`
+    #[tactic(auto, unfolding(crate::specs::Kept::cast_of))]
     pub fn read_text(&self, line: &Line) -> Result<Name, Declined>
         ensures { Reads letters (text_line (cast_of self.now) (line_of line.now)) result }
     {
         if line.len() != 2 {
-            return decline(Rule::Line, line.place);
+            return Err(line.fault(Rule::Line));
         }
-        if !self.has_text_room() {
-            return decline(Rule::Count, line.place);
+        if self.texts.len() >= MOST_TEXTS {
+            return Err(line.fault(Rule::Count));
         }
-        let word = line.word(1);
-        let Some(name) = self.new_name(word.text) else {
-            return decline(Rule::NewName, word.place);
-        };
+        let name = self.new_name(line.word(1))?;
         Ok(name)
     }
 
@@ -231,27 +212,21 @@ impl Cast {
     fn find_player(&self, word: &[u8]) -> Option<usize>
         ensures { result ≡ player_of (cast_of self.now) word.now }
     {
-        let agent = self.find_agent(word)?;
-        if self.is_honest(agent) {
-            Some(agent)
-        } else {
-            None
-        }
+        self.find_agent(word).filter(|agent| self.is_honest(*agent))
     }
 
     // `role NAME` or `role NAME PLAYER`, whose count of words is right
     pub fn read_title(&self, line: &Line) -> Result<Title, Declined>
         ensures { Reads title_of (title_line (cast_of self.now) (line_of line.now)) result }
     {
-        let word = line.word(1);
-        let Some(name) = self.new_name(word.text) else {
-            return decline(Rule::NewName, word.place);
-        };
+        let name = self.new_name(line.word(1))?;
         if line.len() == 2 {
             return Ok(Title { name, player: None });
         }
         let player = line.word(2);
-        let agent = expect(self.find_player(player.text), Rule::Word, player.place)?;
+        let agent = self
+            .find_player(player.text)
+            .ok_or(player.fault(Rule::Word))?;
         Ok(Title {
             name,
             player: Some(agent),
@@ -269,56 +244,52 @@ impl Cast {
     }
 
     // Whether the agent may play the role.
+    #[tactic(auto, unfolding(crate::specs::Kept::cast_of))]
     fn may_play(&self, agent: usize, role: usize) -> bool
         ensures { result ≡ may_play (cast_of self.now) agent (slice_get (cast_of self.now).roles role) }
     {
-        role < self.roles.len() && self.is_played_by(self.roles[role].player, agent)
+        self.roles
+            .get(role)
+            .is_some_and(|role| self.is_played_by(role.player, agent))
     }
 
     // The role of this name, if the agent may play it.
     fn find_playable(&self, agent: usize, word: &[u8]) -> Option<usize>
         ensures { result ≡ playable (cast_of self.now) agent word.now }
     {
-        let role = self.find_role(word)?;
-        if self.may_play(agent, role) {
-            Some(role)
-        } else {
-            None
-        }
+        self.find_role(word)
+            .filter(|role| self.may_play(agent, *role))
     }
 
     // The fresh variable of this name in the role.
+    #[tactic(auto, unfolding(crate::specs::Kept::cast_of))]
     fn find_fresh(&self, role: usize, word: &[u8]) -> Option<usize>
         ensures { result ≡ fresh_in (slice_get (cast_of self.now).roles role) word.now }
     {
-        if role >= self.roles.len() {
-            return None;
-        }
-        find_fresh_among(self.roles[role].variables.as_slice(), word)
+        let role = self.roles.get(role)?;
+        find_fresh_among(role.variables.as_slice(), word)
     }
 
     // `nonce NAME AGENT ROLE FRESH`
+    #[tactic(auto, unfolding(crate::specs::Kept::cast_of))]
     pub fn read_nonce(&self, line: &Line) -> Result<Nonce, Declined>
         ensures { Reads nonce_of (nonce_line (cast_of self.now) (line_of line.now)) result }
     {
         if line.len() != 5 {
-            return decline(Rule::Line, line.place);
+            return Err(line.fault(Rule::Line));
         }
-        if !self.has_nonce_room() {
-            return decline(Rule::Count, line.place);
+        if self.nonces.len() >= MOST_NONCES {
+            return Err(line.fault(Rule::Count));
         }
-        let word = line.word(1);
-        let Some(name) = self.new_name(word.text) else {
-            return decline(Rule::NewName, word.place);
-        };
+        let name = self.new_name(line.word(1))?;
         let (agent, role, variable) = (line.word(2), line.word(3), line.word(4));
-        let agent = expect(self.find_agent(agent.text), Rule::Word, agent.place)?;
-        let role = expect(self.find_playable(agent, role.text), Rule::Word, role.place)?;
-        let variable = expect(
-            self.find_fresh(role, variable.text),
-            Rule::Word,
-            variable.place,
-        )?;
+        let agent = self.find_agent(agent.text).ok_or(agent.fault(Rule::Word))?;
+        let role = self
+            .find_playable(agent, role.text)
+            .ok_or(role.fault(Rule::Word))?;
+        let variable = self
+            .find_fresh(role, variable.text)
+            .ok_or(variable.fault(Rule::Word))?;
         Ok(Nonce {
             name,
             agent,

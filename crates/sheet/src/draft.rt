@@ -1,18 +1,26 @@
 // A sheet as far as it is read, line by line.
 ghost use Rattle.std.specs.Prelude.{◌≡◌, ◌<◌, ◌&&◌, length, Ok, decimal, nat_lt};
-ghost use Rattle.lexer.specs.Text.{is, line_of};
+ghost use Rattle.lexer.specs.declared.Rule.TheVariants.{Line as Misplaced};
+ghost use Rattle.lexer.specs.Text.{is, is_only, line_of, words_of};
 ghost use Rattle.sheet.specs.Kept.{cast_of, draft_of};
+ghost use Rattle.sheet.specs.Reading.{back_line, claim_at, claim_line, claim_shape, few_atoms, know_line, needs_at, role_shape, says_all, unless};
+ghost use Rattle.sheet.specs.Sections.{back_or, blank, closed, in_agents, in_claim, in_free, in_known, in_marks, in_nonces, in_opening, in_part, in_ranks, in_roles, in_seals, in_start, in_steps, in_texts, in_variables, next_role, opened, role_end, role_line, stepped};
 ghost use Rattle.terms.specs.Outcomes.{Becomes, Reads};
-ghost use Rattle.sheet.specs.Reading.{back_line, claim_at, claim_line, claim_shape, few_atoms, know_line, needs_at, role_shape, says_all};
-ghost use Rattle.sheet.specs.Sections.{back_or, blank, closed, in_agents, in_claim, in_free, in_known, in_marks, in_nonces, in_opening, in_part, in_ranks, in_roles, in_seals, in_start, in_steps, in_texts, in_variables, knowing, next_role, opened, recv_on, role_end, role_line, send_on, sig_on};
-ghost use Rattle.terms.specs.Stored.{claim_of, nodes_of};
+ghost use Rattle.terms.specs.Stored.{claim_of, nodes_of, step_of};
+ghost use Rattle.terms.specs.Variables.{receives};
 
 use super::cast::Cast;
 use super::script::Script;
 use super::table::Table;
-use lexer::{Declined, Line, Rule, same};
+use lexer::{Declined, Line, Rule, Word};
 use std::alloc::Global;
-use terms::{Claim, Node, decline, expect, find_word, read_signal, read_term, same_signal};
+use terms::{Claim, Node, Step, find, read_signal, read_term, same_signal};
+
+// The first line of a sheet.
+const HEADING: &[u8] = b"link sheet 1";
+
+// Beside the one that is being read.
+const MOST_CLOSED_ROLES: usize = 3;
 
 const MOST_KNOWN: usize = 8;
 
@@ -69,13 +77,14 @@ fn has_role_shape(line: &Line) -> bool
 fn find_needs(line: &Line) -> Option<usize>
     ensures { result ≡ needs_at (line_of line.now) }
 {
-    find_word(line.from(2), b"needs")
+    find(line.from(2), b"needs")
 }
 
 // `holds WORD ATOMS needs WORD ATOMS`
 fn has_claim_shape(line: &Line, needs: Option<usize>) -> bool
     ensures { result ≡ claim_shape (line_of line.now) needs }
 {
+    // A match, since with `is_some_and` the proof does not close.
     match needs {
         None => false,
         Some(atoms) => are_few(atoms)
@@ -92,7 +101,7 @@ fn read_claim_at(heap: Global, cast: &Cast, line: &Line, atoms: usize) -> Result
     let completion = read_signal(heap, &scope, line.word(1), line.slice(2, atoms))?;
     let needed = read_signal(heap, &scope, line.word(atoms + 3), line.from(atoms + 4))?;
     if same_signal(&completion, &needed) {
-        return decline(Rule::Twice, line.place);
+        return Err(line.fault(Rule::Twice));
     }
     Ok(Claim { completion, needed })
 }
@@ -114,7 +123,7 @@ impl Draft {
         }
     }
 
-    // One line more, of this number counted from 1.
+    // One line more, of this number counted from 1. What may come next is a state, so an enum with a call for each part says it plainest.
     pub fn read_line(&mut self, number: usize, line: &Line) -> Result<(), Declined>
         ensures { Becomes draft_of (in_part self.old.part (draft_of self.old) number (line_of line.now)) self.new result }
     {
@@ -133,14 +142,17 @@ impl Draft {
             Part::Ranks => self.in_ranks(line),
             Part::Seals => self.in_seals(line),
             Part::Marks => self.in_marks(line),
-            Part::End => decline(Rule::Line, line.place),
+            Part::End => Err(line.fault(Rule::Line)),
         }
     }
 
-    // A section word stands in the line of this number.
-    fn open(&mut self, part: Part, number: usize) -> Result<(), Declined>
-        ensures { Becomes draft_of (Ok (opened (draft_of self.old) part number)) self.new result }
+    // The next section, where the line is its word alone.
+    fn open(&mut self, part: Part, word: &[u8], number: usize, line: &Line) -> Result<(), Declined>
+        ensures { Becomes draft_of (unless (is_only (line_of line.now) word.now) Misplaced (line_of line.now).place (Ok (opened (draft_of self.old) part number))) self.new result }
     {
+        if !line.is_only(word) {
+            return Err(line.fault(Rule::Line));
+        }
         self.sections.push(number)?;
         self.part = part;
         Ok(())
@@ -149,8 +161,8 @@ impl Draft {
     fn in_start(&mut self, line: &Line) -> Result<(), Declined>
         ensures { Becomes draft_of (in_start (draft_of self.old) (line_of line.now)) self.new result }
     {
-        if !same(line.text, b"link sheet 1") {
-            return decline(Rule::Line, line.place);
+        if line.text != HEADING {
+            return Err(line.fault(Rule::Line));
         }
         self.part = Part::Opening;
         Ok(())
@@ -159,39 +171,34 @@ impl Draft {
     fn in_opening(&mut self, number: usize, line: &Line) -> Result<(), Declined>
         ensures { Becomes draft_of (in_opening (draft_of self.old) number (line_of line.now)) self.new result }
     {
-        if !line.is_only(b"agents") {
-            return decline(Rule::Line, line.place);
-        }
-        self.open(Part::Agents, number)
+        self.open(Part::Agents, b"agents", number, line)
     }
 
+    #[tactic(auto, unfolding(crate::specs::Kept::cast_of), using(std::proofs::lemmas::List::map_push))]
     fn in_agents(&mut self, number: usize, line: &Line) -> Result<(), Declined>
         ensures { Becomes draft_of (in_agents (draft_of self.old) number (line_of line.now)) self.new result }
     {
         if line.is(0, b"agent") {
             let agent = self.cast.read_agent(line)?;
-            return self.cast.add_agent(agent);
+            self.cast.agents.push(agent)?;
+            return Ok(());
         }
-        if !line.is_only(b"texts") {
-            return decline(Rule::Line, line.place);
+        if line.is_only(b"texts") && self.cast.agents.is_empty() {
+            return Err(line.fault(Rule::Count));
         }
-        if !self.cast.has_agents() {
-            return decline(Rule::Count, line.place);
-        }
-        self.open(Part::Texts, number)
+        self.open(Part::Texts, b"texts", number, line)
     }
 
+    #[tactic(auto, unfolding(crate::specs::Kept::cast_of), using(std::proofs::lemmas::List::map_push))]
     fn in_texts(&mut self, number: usize, line: &Line) -> Result<(), Declined>
         ensures { Becomes draft_of (in_texts (draft_of self.old) number (line_of line.now)) self.new result }
     {
         if line.is(0, b"text") {
             let text = self.cast.read_text(line)?;
-            return self.cast.add_text(text);
+            self.cast.texts.push(text)?;
+            return Ok(());
         }
-        if !line.is_only(b"roles") {
-            return decline(Rule::Line, line.place);
-        }
-        self.open(Part::Roles, number)
+        self.open(Part::Roles, b"roles", number, line)
     }
 
     // A role begins.
@@ -209,79 +216,67 @@ impl Draft {
     {
         if line.is(0, b"role") {
             if !has_role_shape(line) {
-                return decline(Rule::Line, line.place);
+                return Err(line.fault(Rule::Line));
             }
             return self.begin_role(line);
         }
         if line.is_only(b"nonces") {
-            return decline(Rule::Count, line.place);
+            return Err(line.fault(Rule::Count));
         }
-        decline(Rule::Line, line.place)
+        Err(line.fault(Rule::Line))
     }
 
+    #[tactic(auto, unfolding(crate::specs::Kept::script_of))]
     fn in_variables(&mut self, number: usize, line: &Line) -> Result<(), Declined>
         ensures { Becomes draft_of (in_variables (draft_of self.old) number (line_of line.now)) self.new result }
     {
         if line.is(0, b"var") {
             let variable = self.script.read_variable(&self.cast, line)?;
-            return self.script.add_variable(line.place, variable);
+            return self.script.variables.add(line.place, variable);
         }
         if line.is(0, b"fresh") {
             let variable = self.script.read_fresh(&self.cast, line)?;
-            return self.script.add_variable(line.place, variable);
+            return self.script.variables.add(line.place, variable);
         }
         self.in_steps(number, line)
     }
 
-    fn read_send(&mut self, line: &Line) -> Result<(), Declined>
-        ensures { Becomes draft_of (send_on (draft_of self.old) (line_of line.now)) self.new result }
+    // One step more, with the words of its line in which variables may stand.
+    fn add_step(&mut self, step: Step, words: &[Word]) -> Result<(), Declined>
+        ensures { Becomes draft_of (Ok (stepped (draft_of self.old) (step_of step) (words_of words.now) (receives (step_of step)))) self.new result }
     {
-        let step = self.script.read_send(self.heap, &self.cast, line)?;
-        self.script.add_step(step, line.from(1), false)?;
+        self.script.add_step(step, words)?;
         self.part = Part::Steps;
         Ok(())
-    }
-
-    fn read_receive(&mut self, line: &Line) -> Result<(), Declined>
-        ensures { Becomes draft_of (recv_on (draft_of self.old) (line_of line.now)) self.new result }
-    {
-        let step = self.script.read_receive(self.heap, &self.cast, line)?;
-        self.script.add_step(step, line.from(1), true)?;
-        self.part = Part::Steps;
-        Ok(())
-    }
-
-    fn read_signal(&mut self, line: &Line) -> Result<(), Declined>
-        ensures { Becomes draft_of (sig_on (draft_of self.old) (line_of line.now)) self.new result }
-    {
-        let step = self.script.read_signal(self.heap, &self.cast, line)?;
-        self.script.add_step(step, line.from(2), false)?;
-        self.part = Part::Steps;
-        Ok(())
-    }
-
-    // The role that was read joins the others.
-    fn close_role(&mut self) -> Result<(), Declined>
-        ensures { Becomes draft_of (closed (draft_of self.old)) self.new result }
-    {
-        self.script.check()?;
-        let script = std::mem::replace(&mut self.script, Script::empty(self.heap));
-        self.cast.add_role(script.into_role())
     }
 
     fn in_steps(&mut self, number: usize, line: &Line) -> Result<(), Declined>
         ensures { Becomes draft_of (in_steps (draft_of self.old) number (line_of line.now)) self.new result }
     {
         if line.is(0, b"send") {
-            return self.read_send(line);
+            let term = self.script.read_term(self.heap, &self.cast, line)?;
+            return self.add_step(Step::Send(term), line.from(1));
         }
         if line.is(0, b"recv") {
-            return self.read_receive(line);
+            let term = self.script.read_term(self.heap, &self.cast, line)?;
+            return self.add_step(Step::Receive(term), line.from(1));
         }
         if line.is(0, b"sig") {
-            return self.read_signal(line);
+            let step = self.script.read_signal(self.heap, &self.cast, line)?;
+            return self.add_step(step, line.from(2));
         }
         self.end_role(number, line)
+    }
+
+    // The role that was read joins the others.
+    #[tactic(auto, unfolding(crate::specs::Kept::cast_of, crate::specs::Kept::script_of), using(std::proofs::lemmas::List::map_push))]
+    fn close_role(&mut self) -> Result<(), Declined>
+        ensures { Becomes draft_of (closed (draft_of self.old)) self.new result }
+    {
+        self.script.variables.check()?;
+        let script = std::mem::replace(&mut self.script, Script::empty(self.heap));
+        self.cast.roles.push(script.into_role())?;
+        Ok(())
     }
 
     // A new role or `nonces`.
@@ -292,13 +287,13 @@ impl Draft {
             return self.next_role(line);
         }
         if !line.is_only(b"nonces") {
-            return decline(Rule::Line, line.place);
+            return Err(line.fault(Rule::Line));
         }
         if !self.script.has_steps() {
-            return decline(Rule::Count, line.place);
+            return Err(line.fault(Rule::Count));
         }
         self.close_role()?;
-        self.open(Part::Nonces, number)
+        self.open(Part::Nonces, b"nonces", number, line)
     }
 
     // A role after another.
@@ -306,69 +301,55 @@ impl Draft {
         ensures { Becomes draft_of (next_role (draft_of self.old) (line_of line.now)) self.new result }
     {
         if !has_role_shape(line) {
-            return decline(Rule::Line, line.place);
+            return Err(line.fault(Rule::Line));
         }
         if !self.may_end_role() {
-            return decline(Rule::Count, line.place);
+            return Err(line.fault(Rule::Count));
         }
         self.close_role()?;
         self.begin_role(line)
     }
 
     // Whether the role has steps, and another may follow.
+    #[tactic(auto, unfolding(crate::specs::Kept::cast_of))]
     fn may_end_role(&self) -> bool
         ensures { result ≡ (nat_lt 0 (length (draft_of self.now).script.steps) && nat_lt (length (draft_of self.now).cast.roles) 3) }
     {
-        self.script.has_steps() && self.cast.has_role_room()
+        self.script.has_steps() && self.cast.roles.len() < MOST_CLOSED_ROLES
     }
 
+    #[tactic(auto, unfolding(crate::specs::Kept::cast_of), using(std::proofs::lemmas::List::map_push))]
     fn in_nonces(&mut self, number: usize, line: &Line) -> Result<(), Declined>
         ensures { Becomes draft_of (in_nonces (draft_of self.old) number (line_of line.now)) self.new result }
     {
         if line.is(0, b"nonce") {
             let nonce = self.cast.read_nonce(line)?;
-            return self.cast.add_nonce(nonce);
+            self.cast.nonces.push(nonce)?;
+            return Ok(());
         }
-        if !line.is_only(b"known") {
-            return decline(Rule::Line, line.place);
-        }
-        self.open(Part::Known, number)
-    }
-
-    fn has_known_room(&self) -> bool
-        ensures { result ≡ nat_lt (length (draft_of self.now).known) 8 }
-    {
-        self.known.len() < MOST_KNOWN
+        self.open(Part::Known, b"known", number, line)
     }
 
     // `know TERM`
     fn read_known(&self, line: &Line) -> Result<Vec<Node>, Declined>
         ensures { Reads nodes_of (know_line (draft_of self.now).cast (draft_of self.now).known (line_of line.now)) result }
     {
-        if !self.has_known_room() {
-            return decline(Rule::Count, line.place);
+        if self.known.len() >= MOST_KNOWN {
+            return Err(line.fault(Rule::Count));
         }
         read_term(self.heap, &self.cast.scope(), line.place, line.from(1))
     }
 
-    fn add_known(&mut self, term: Vec<Node>) -> Result<(), Declined>
-        ensures { Becomes draft_of (Ok (knowing (draft_of self.old) (nodes_of term))) self.new result }
-    {
-        self.known.push(term)?;
-        Ok(())
-    }
-
+    #[tactic(auto, using(std::proofs::lemmas::List::map_push))]
     fn in_known(&mut self, number: usize, line: &Line) -> Result<(), Declined>
         ensures { Becomes draft_of (in_known (draft_of self.old) number (line_of line.now)) self.new result }
     {
         if line.is(0, b"know") {
             let term = self.read_known(line)?;
-            return self.add_known(term);
+            self.known.push(term)?;
+            return Ok(());
         }
-        if !line.is_only(b"claim") {
-            return decline(Rule::Line, line.place);
-        }
-        self.open(Part::Claim, number)
+        self.open(Part::Claim, b"claim", number, line)
     }
 
     // `holds WORD ATOMS needs WORD ATOMS`
@@ -377,12 +358,12 @@ impl Draft {
     {
         let needs = find_needs(line);
         if !has_claim_shape(line, needs) {
-            return decline(Rule::Line, line.place);
+            return Err(line.fault(Rule::Line));
         }
         if self.claim.is_some() {
-            return decline(Rule::Count, line.place);
+            return Err(line.fault(Rule::Count));
         }
-        let atoms = expect(needs, Rule::Line, line.place)?;
+        let atoms = needs.ok_or(line.fault(Rule::Line))?;
         read_claim_at(self.heap, &self.cast, line, atoms)
     }
 
@@ -394,55 +375,58 @@ impl Draft {
             self.claim = Some(claim);
             return Ok(());
         }
-        if !line.is_only(b"ranks") {
-            return decline(Rule::Line, line.place);
+        if line.is_only(b"ranks") && self.claim.is_none() {
+            return Err(line.fault(Rule::Count));
         }
-        if self.claim.is_none() {
-            return decline(Rule::Count, line.place);
-        }
-        self.open(Part::Free, number)
+        self.open(Part::Free, b"ranks", number, line)
     }
 
+    // A section of the ranks may have no lines, so each of these calls passes what it does not read to the next. Only their frame is one: each keeps lines of another type.
+    #[tactic(auto, unfolding(crate::specs::Kept::table_of), using(std::proofs::lemmas::List::map_push))]
     fn in_free(&mut self, line: &Line) -> Result<(), Declined>
         ensures { Becomes draft_of (in_free (draft_of self.old) (line_of line.now)) self.new result }
     {
         if line.is(0, b"free") {
             let variable = self.table.read_free(&self.cast, line)?;
-            return self.table.add_free(line.place, variable);
+            return self.table.free.add(line.place, variable);
         }
         self.in_ranks(line)
     }
 
+    #[tactic(auto, unfolding(crate::specs::Kept::table_of), using(std::proofs::lemmas::List::map_push))]
     fn in_ranks(&mut self, line: &Line) -> Result<(), Declined>
         ensures { Becomes draft_of (in_ranks (draft_of self.old) (line_of line.now)) self.new result }
     {
         if line.is(0, b"rank") {
             let ranked = self.table.read_rank(&self.cast, line)?;
-            self.table.add_rank(ranked)?;
+            self.table.atoms.push(ranked)?;
             self.part = Part::Ranks;
             return Ok(());
         }
         self.in_seals(line)
     }
 
+    #[tactic(auto, unfolding(crate::specs::Kept::table_of), using(std::proofs::lemmas::List::map_push))]
     fn in_seals(&mut self, line: &Line) -> Result<(), Declined>
         ensures { Becomes draft_of (in_seals (draft_of self.old) (line_of line.now)) self.new result }
     {
         if line.is(0, b"seal") {
             let ranked = self.table.read_seal(self.heap, &self.cast, line)?;
-            self.table.add_seal(ranked, line.from(2))?;
+            self.table.free.note(line.from(2), true);
+            self.table.seals.push(ranked)?;
             self.part = Part::Seals;
             return Ok(());
         }
         self.in_marks(line)
     }
 
+    #[tactic(auto, unfolding(crate::specs::Kept::table_of), using(std::proofs::lemmas::List::map_push))]
     fn in_marks(&mut self, line: &Line) -> Result<(), Declined>
         ensures { Becomes draft_of (in_marks (draft_of self.old) (line_of line.now)) self.new result }
     {
         if line.is(0, b"mark") {
             let ranked = self.table.read_mark(self.heap, &self.cast, line)?;
-            self.table.add_mark(ranked)?;
+            self.table.marks.push(ranked)?;
             self.part = Part::Marks;
             return Ok(());
         }
@@ -450,15 +434,16 @@ impl Draft {
     }
 
     // `back` and the seven line numbers
+    #[tactic(auto, unfolding(crate::specs::Kept::table_of))]
     fn check_back(&self, line: &Line) -> Result<(), Declined>
         ensures { Reads (λ u. u) (back_line (draft_of self.now) (line_of line.now)) result }
     {
         if line.len() != 8 {
-            return decline(Rule::Line, line.place);
+            return Err(line.fault(Rule::Line));
         }
-        self.table.check()?;
+        self.table.free.check()?;
         if !self.says_sections(line)? {
-            return decline(Rule::Back, line.place);
+            return Err(line.fault(Rule::Back));
         }
         Ok(())
     }
@@ -473,7 +458,7 @@ impl Draft {
         ensures { Becomes draft_of (back_or (draft_of self.old) (line_of line.now)) self.new result }
     {
         if !line.is(0, b"back") {
-            return decline(Rule::Line, line.place);
+            return Err(line.fault(Rule::Line));
         }
         self.check_back(line)?;
         self.part = Part::End;

@@ -3,7 +3,6 @@
 
 mod cast;
 mod draft;
-mod grow;
 mod script;
 mod sheet;
 mod table;

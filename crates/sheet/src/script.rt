@@ -1,53 +1,84 @@
 // The role that is being read: its variables and steps.
-ghost use Rattle.std.specs.Prelude.{◌≡◌, ◌||◌, length, Ok, nat_lt};
-ghost use Rattle.lexer.specs.Text.{line_of, words_of};
-ghost use Rattle.sheet.specs.Drafts.{new_variable, script_scope};
-ghost use Rattle.terms.specs.Usages.{check_usages};
-ghost use Rattle.terms.specs.Terms.{has};
+ghost use Rattle.std.specs.Prelude.{◌≡◌, ◌&&◌, ◌||◌, length, nat_lt, not, Ok};
+ghost use Rattle.lexer.specs.Text.{line_of, word_at, words_of};
+ghost use Rattle.sheet.specs.Drafts.{script_scope, taken};
 ghost use Rattle.sheet.specs.Kept.{cast_of, script_of, title_of};
-ghost use Rattle.terms.specs.Outcomes.{Becomes, Gives, Reads};
-ghost use Rattle.sheet.specs.Reading.{fresh_line, recv_line, send_line, sig_line, var_line};
-ghost use Rattle.terms.specs.Scopes.{scope_of};
-ghost use Rattle.sheet.specs.Sections.{more_step, more_variable, new_script};
-ghost use Rattle.terms.specs.Stored.{step_of, variable_of};
-ghost use Rattle.terms.specs.Terms.{variable_names};
+ghost use Rattle.sheet.specs.Reading.{fresh_line, plain_line, sig_line, term_line, var_line};
+ghost use Rattle.sheet.specs.Sections.{more_step, new_script, no_title, role_read};
 ghost use Rattle.std.specs.Str.{bytes_eq};
+ghost use Rattle.terms.specs.Names.{is_name};
+ghost use Rattle.terms.specs.Outcomes.{Becomes, Reads};
+ghost use Rattle.terms.specs.Scopes.{scope_of};
+ghost use Rattle.terms.specs.Stored.{nodes_of, role_of, step_of, variable_of};
+ghost use Rattle.terms.specs.Terms.{has, variable_names};
+ghost use Rattle.terms.specs.Variables.{receives};
 
-use super::cast::{Cast, Title, read_kind};
+use super::cast::{Cast, Title, new_name, read_kind};
 use lexer::{Declined, Line, Rule, Word};
 use std::alloc::Global;
 use terms::{
-    Name, Scope, Sort, Step, Usage, Variable, check_usages, decline, expect, find_variable,
-    is_name, note_words, read_signal, read_term,
+    Name, Node, Role, Scope, Sort, Step, Variable, Variables, find, read_signal, read_term,
 };
 
 const MOST_VARIABLES: usize = 5;
 
 const MOST_STEPS: usize = 8;
 
-// A role's title, its variables with where they first stand, and its steps.
+// A role's title, its variables and its steps.
 #[derive(Drop)]
 pub struct Script {
     pub title: Title,
-    pub variables: Vec<Variable>,
-    pub usages: Vec<Usage>,
+    pub variables: Variables,
     pub steps: Vec<Step>,
+}
+
+// `var NAME KIND` or `free NAME KIND`, where so many are declared already and something else may have the name.
+pub fn read_plain(line: &Line, declared: usize, taken: bool) -> Result<Variable, Declined>
+    ensures { Reads variable_of (plain_line declared (is_name (word_at (line_of line.now) 1).text && not taken) (line_of line.now)) result }
+{
+    if line.len() != 3 {
+        return Err(line.fault(Rule::Line));
+    }
+    if declared >= MOST_VARIABLES {
+        return Err(line.fault(Rule::Count));
+    }
+    let name = new_name(line.word(1), taken)?;
+    let kind = line.word(2);
+    let kind = read_kind(kind.text).ok_or(kind.fault(Rule::Word))?;
+    Ok(Variable {
+        name,
+        sort: Sort::Plain(kind),
+    })
 }
 
 impl Script {
     // A role of which nothing but the title is read.
+    #[tactic(auto, unfolding(crate::specs::Kept::script_of))]
     pub fn new(heap: Global, title: Title) -> Script
         ensures { script_of result ≡ new_script (title_of title) }
     {
         Script {
             title,
-            variables: Vec::new(heap),
-            usages: Vec::new(heap),
+            variables: Variables::new(heap),
             steps: Vec::new(heap),
         }
     }
 
+    // No role is being read.
+    pub fn empty(heap: Global) -> Script
+        ensures { script_of result ≡ new_script no_title }
+    {
+        Script::new(
+            heap,
+            Title {
+                name: Name::new(b""),
+                player: None,
+            },
+        )
+    }
+
     // What a word of a step may stand for.
+    #[tactic(auto, unfolding(crate::specs::Kept::cast_of, crate::specs::Kept::script_of))]
     fn scope<'a>(&'a self, cast: &'a Cast) -> Scope<'a>
         ensures { scope_of result ≡ script_scope (cast_of cast.now) (script_of self.now) }
     {
@@ -60,117 +91,62 @@ impl Script {
         }
     }
 
-    // Whether there is room for one variable more, and for one step more.
-    fn has_variable_room(&self) -> bool
-        ensures { result ≡ nat_lt (length (script_of self.now).variables) 5 }
+    // Whether something with a name of its own, the role or one of its variables has this name.
+    #[tactic(auto, unfolding(crate::specs::Kept::script_of))]
+    fn is_taken(&self, cast: &Cast, word: &[u8]) -> bool
+        ensures { result ≡ (taken (cast_of cast.now) word.now || (bytes_eq (script_of self.now).title.name word.now || has (variable_names (script_of self.now).variables) word.now)) }
     {
-        self.variables.len() < MOST_VARIABLES
-    }
-
-    fn has_step_room(&self) -> bool
-        ensures { result ≡ nat_lt (length (script_of self.now).steps) 8 }
-    {
-        self.steps.len() < MOST_STEPS
-    }
-
-    // Whether the role or one of its variables has this name.
-    fn has_name(&self, word: &[u8]) -> bool
-        ensures { result ≡ (bytes_eq (script_of self.now).title.name word.now || has (variable_names (script_of self.now).variables) word.now) }
-    {
-        self.title.name.is(word) || find_variable(self.variables.as_slice(), word).is_some()
-    }
-
-    // Whether a variable may get this name.
-    fn is_new(&self, cast: &Cast, word: &[u8]) -> bool
-        ensures { result ≡ new_variable (cast_of cast.now) (script_of self.now) word.now }
-    {
-        is_name(word) && !(cast.is_taken(word) || self.has_name(word))
-    }
-
-    // The name for a new variable, if it may get that name.
-    fn new_name(&self, cast: &Cast, word: &[u8]) -> Option<Name>
-        ensures { Gives (new_variable (cast_of cast.now) (script_of self.now) word.now) word.now result }
-    {
-        if self.is_new(cast, word) {
-            Some(Name::new(word))
-        } else {
-            None
-        }
+        cast.is_taken(word)
+            || self.title.name.is(word)
+            || find(self.variables.as_slice(), word).is_some()
     }
 
     // `var NAME KIND`
+    #[tactic(auto, unfolding(crate::specs::Kept::script_of, crate::specs::Drafts::new_variable))]
     pub fn read_variable(&self, cast: &Cast, line: &Line) -> Result<Variable, Declined>
         ensures { Reads variable_of (var_line (cast_of cast.now) (script_of self.now) (line_of line.now)) result }
     {
-        if line.len() != 3 {
-            return decline(Rule::Line, line.place);
-        }
-        if !self.has_variable_room() {
-            return decline(Rule::Count, line.place);
-        }
-        let word = line.word(1);
-        let Some(name) = self.new_name(cast, word.text) else {
-            return decline(Rule::NewName, word.place);
-        };
-        let kind = line.word(2);
-        let kind = expect(read_kind(kind.text), Rule::Word, kind.place)?;
-        Ok(Variable {
-            name,
-            sort: Sort::Plain(kind),
-        })
+        let taken = self.is_taken(cast, line.word(1).text);
+        read_plain(line, self.variables.len(), taken)
     }
 
     // `fresh NAME`
+    #[tactic(auto, unfolding(crate::specs::Kept::script_of, crate::specs::Drafts::new_variable))]
     pub fn read_fresh(&self, cast: &Cast, line: &Line) -> Result<Variable, Declined>
         ensures { Reads variable_of (fresh_line (cast_of cast.now) (script_of self.now) (line_of line.now)) result }
     {
         if line.len() != 2 {
-            return decline(Rule::Line, line.place);
+            return Err(line.fault(Rule::Line));
         }
-        if !self.has_variable_room() {
-            return decline(Rule::Count, line.place);
+        if self.variables.len() >= MOST_VARIABLES {
+            return Err(line.fault(Rule::Count));
         }
         let word = line.word(1);
-        let Some(name) = self.new_name(cast, word.text) else {
-            return decline(Rule::NewName, word.place);
-        };
+        let name = new_name(word, self.is_taken(cast, word.text))?;
         Ok(Variable {
             name,
             sort: Sort::Fresh,
         })
     }
 
-    // `send TERM`
-    pub fn read_send<'a>(
+    // The term of `send TERM` or `recv TERM`. The draft owns the heap and the cast and lends both: a struct for them would be made anew for each call.
+    #[tactic(auto, unfolding(crate::specs::Kept::script_of))]
+    pub fn read_term<'a>(
         &'a self,
         heap: Global,
         cast: &'a Cast,
         line: &Line,
-    ) -> Result<Step, Declined>
-        ensures { Reads step_of (send_line (cast_of cast.now) (script_of self.now) (line_of line.now)) result }
+    ) -> Result<Vec<Node>, Declined>
+        ensures { Reads nodes_of (term_line (cast_of cast.now) (script_of self.now) (line_of line.now)) result }
     {
-        if !self.has_step_room() {
-            return decline(Rule::Count, line.place);
+        if self.steps.len() >= MOST_STEPS {
+            return Err(line.fault(Rule::Count));
         }
-        Ok(Step::Send(read_term(heap, &self.scope(cast), line.place, line.from(1))?))
-    }
-
-    // `recv TERM`
-    pub fn read_receive<'a>(
-        &'a self,
-        heap: Global,
-        cast: &'a Cast,
-        line: &Line,
-    ) -> Result<Step, Declined>
-        ensures { Reads step_of (recv_line (cast_of cast.now) (script_of self.now) (line_of line.now)) result }
-    {
-        if !self.has_step_room() {
-            return decline(Rule::Count, line.place);
-        }
-        Ok(Step::Receive(read_term(heap, &self.scope(cast), line.place, line.from(1))?))
+        read_term(heap, &self.scope(cast), line.place, line.from(1))
     }
 
     // `sig WORD ATOMS`
+    #[tactic(auto, unfolding(crate::specs::Kept::script_of))]
     pub fn read_signal<'a>(
         &'a self,
         heap: Global,
@@ -180,39 +156,47 @@ impl Script {
         ensures { Reads step_of (sig_line (cast_of cast.now) (script_of self.now) (line_of line.now)) result }
     {
         if line.len() < 3 || line.len() > 6 {
-            return decline(Rule::Line, line.place);
+            return Err(line.fault(Rule::Line));
         }
-        if !self.has_step_room() {
-            return decline(Rule::Count, line.place);
+        if self.steps.len() >= MOST_STEPS {
+            return Err(line.fault(Rule::Count));
         }
         Ok(Step::Signal(read_signal(heap, &self.scope(cast), line.word(1), line.from(2))?))
     }
 
-    // One variable more, declared at this place.
-    pub fn add_variable(&mut self, place: usize, variable: Variable) -> Result<(), Declined>
-        ensures { Becomes script_of (Ok (more_variable (script_of self.old) place (variable_of variable))) self.new result }
-    {
-        self.variables.push(variable)?;
-        self.usages.push(Usage {
-            declared: place,
-            first: None,
-        })?;
-        Ok(())
-    }
-
     // One step more, with the words of its line in which variables may stand.
-    pub fn add_step(&mut self, step: Step, words: &[Word], received: bool) -> Result<(), Declined>
-        ensures { Becomes script_of (Ok (more_step (script_of self.old) (step_of step) (words_of words.now) received)) self.new result }
+    #[tactic(auto, unfolding(crate::specs::Kept::script_of), using(std::proofs::lemmas::List::map_push))]
+    pub fn add_step(&mut self, step: Step, words: &[Word]) -> Result<(), Declined>
+        ensures { Becomes script_of (Ok (more_step (script_of self.old) (step_of step) (words_of words.now) (receives (step_of step)))) self.new result }
     {
-        note_words(self.variables.as_slice(), &mut self.usages, words, received);
+        self.variables.note(words, matches!(step, Step::Receive(_)));
         self.steps.push(step)?;
         Ok(())
     }
 
-    // That each variable stands somewhere, and a nonce that is not the session's own is first received.
-    pub fn check(&self) -> Result<(), Declined>
-        ensures { Reads (λ u. u) (check_usages (script_of self.now).variables (script_of self.now).usages) result }
+    // Whether there is a step.
+    #[tactic(auto, unfolding(crate::specs::Kept::script_of))]
+    pub fn has_steps(&self) -> bool
+        ensures { result ≡ nat_lt 0 (length (script_of self.now).steps) }
     {
-        check_usages(self.variables.as_slice(), self.usages.as_slice())
+        !self.steps.is_empty()
+    }
+
+    // The role that was read.
+    #[tactic(auto, unfolding(crate::specs::Kept::script_of))]
+    pub fn into_role(self) -> Role
+        ensures { role_of result ≡ role_read (script_of self) }
+    {
+        let Script {
+            title,
+            variables,
+            steps,
+        } = self;
+        Role {
+            name: title.name,
+            player: title.player,
+            variables: variables.into_list(),
+            steps,
+        }
     }
 }

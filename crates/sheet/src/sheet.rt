@@ -1,7 +1,7 @@
 // The sheet: unread and empty, or as it was read.
 ghost use Rattle.std.specs.Prelude.{◌≡◌, None};
 ghost use Rattle.lexer.specs.Text.{lines_of};
-ghost use Rattle.sheet.specs.Kept.{contents_of, draft_of, sheet_of};
+ghost use Rattle.sheet.specs.Kept.{contents_of, draft_of};
 ghost use Rattle.terms.specs.Outcomes.{Reads, Sheeted};
 ghost use Rattle.sheet.specs.Sections.{blank, finished, lines_from, reading};
 ghost use Rattle.std.specs.Option.{option_map};
@@ -9,7 +9,8 @@ ghost use Rattle.std.specs.Option.{option_map};
 use super::draft::{Draft, Part};
 use lexer::{Declined, Line, Rule, read_lines};
 use std::alloc::Global;
-use terms::{Agent, Claim, Name, Node, Nonce, Ranked, Role, Signal, Variable, decline};
+use std::marker::Model;
+use terms::{Agent, Claim, Name, Node, Nonce, Ranked, Role, Signal, Variable};
 
 // What a sheet says.
 #[derive(Drop)]
@@ -33,6 +34,18 @@ pub struct Sheet {
     contents: Option<Contents>,
 }
 
+// Clauses see the sheet that was read, if one was.
+impl Model for Sheet {
+    ghost use Rattle.std.specs.Prelude.{Option};
+    ghost use Rattle.std.specs.Option.{option_map};
+    ghost use Rattle.terms.specs.Sheet as model;
+    ghost use Rattle.sheet.specs.Kept.{contents_of};
+
+    ghost Value = { Option model.Sheet };
+
+    ghost view = { λ s. option_map contents_of s.contents };
+}
+
 // The draft that the lines make, from the first on.
 fn read_draft(heap: Global, lines: &[Line]) -> Result<Draft, Declined>
     ensures { Reads draft_of (lines_from blank 1 (lines_of lines.now)) result }
@@ -45,6 +58,7 @@ fn read_draft(heap: Global, lines: &[Line]) -> Result<Draft, Declined>
 }
 
 // What a whole text says; it ends at `end`.
+#[tactic(auto, unfolding(crate::specs::Kept::cast_of, crate::specs::Kept::table_of))]
 fn finish(draft: Draft, end: usize) -> Result<Contents, Declined>
     ensures { Reads contents_of (finished end (draft_of draft) (draft_of draft).claim) result }
 {
@@ -58,24 +72,21 @@ fn finish(draft: Draft, end: usize) -> Result<Contents, Declined>
         claim,
         table,
     } = draft;
-    let Some(claim) = claim else {
-        return decline(Rule::Count, end);
-    };
-    if !matches!(part, Part::End) {
-        return decline(Rule::Count, end);
+    match (part, claim) {
+        (Part::End, Some(claim)) => Ok(Contents {
+            agents: cast.agents,
+            texts: cast.texts,
+            roles: cast.roles,
+            nonces: cast.nonces,
+            known,
+            claim,
+            free: table.free.into_list(),
+            atoms: table.atoms,
+            seals: table.seals,
+            marks: table.marks,
+        }),
+        _ => Err(Rule::Count.at(end)),
     }
-    Ok(Contents {
-        agents: cast.agents,
-        texts: cast.texts,
-        roles: cast.roles,
-        nonces: cast.nonces,
-        known,
-        claim,
-        free: table.free,
-        atoms: table.atoms,
-        seals: table.seals,
-        marks: table.marks,
-    })
 }
 
 fn read_contents(heap: Global, text: &[u8]) -> Result<Contents, Declined>
@@ -89,7 +100,7 @@ fn read_contents(heap: Global, text: &[u8]) -> Result<Contents, Declined>
 impl Sheet {
     // The unread sheet, which is empty.
     pub fn new(heap: Global) -> Sheet
-        ensures { sheet_of result ≡ None }
+        ensures { result ≡ None }
     {
         Sheet {
             heap,
@@ -99,7 +110,7 @@ impl Sheet {
 
     // Reads a text into the sheet. A text that is declined, for want of memory too, leaves the sheet empty.
     pub fn read(&mut self, text: &[u8]) -> Result<(), Declined>
-        ensures { Sheeted (reading text.now) (sheet_of self.new) result }
+        ensures { Sheeted (reading text.now) self.new result }
     {
         self.contents = None;
         let contents = read_contents(self.heap, text)?;
@@ -109,7 +120,7 @@ impl Sheet {
 
     // What the sheet says, if it was read.
     pub fn contents(&self) -> Option<&Contents>
-        ensures { option_map (λ c. contents_of c.now) result ≡ sheet_of self.now }
+        ensures { option_map (λ c. contents_of c.now) result ≡ self.now }
     {
         self.contents.as_ref()
     }

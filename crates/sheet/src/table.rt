@@ -1,26 +1,24 @@
 // The table of ranks, and what it may speak of.
-ghost use Rattle.std.specs.Prelude.{◌≡◌, ◌∷◌, map, length, Ok, vec_items, nat_lt};
-ghost use Rattle.lexer.specs.Text.{line_of, words_of};
-ghost use Rattle.sheet.specs.Drafts.{free_scope, new_free};
-ghost use Rattle.terms.specs.Usages.{check_usages};
+ghost use Rattle.std.specs.Prelude.{◌≡◌, ◌∷◌, ◌||◌, length, Ok, nat_lt, vec_items};
+ghost use Rattle.lexer.specs.Text.{line_of};
+ghost use Rattle.sheet.specs.Drafts.{free_scope, taken};
 ghost use Rattle.sheet.specs.Kept.{cast_of, table_of};
-ghost use Rattle.terms.specs.Outcomes.{Becomes, Gives, Reads};
 ghost use Rattle.sheet.specs.Reading.{atom_ranked, free_line, mark_line, numbered, rank_line, rank_shape, ranked_atom, seal_line, signal_ranked};
+ghost use Rattle.sheet.specs.Sections.{no_table};
+ghost use Rattle.terms.specs.Outcomes.{Reads};
 ghost use Rattle.terms.specs.Scopes.{scope_of};
-ghost use Rattle.sheet.specs.Sections.{more_atom, more_free, more_mark, more_seal, no_table};
-ghost use Rattle.terms.specs.Stored.{ranked_of, signal_of, nodes_of, variable_of};
-ghost use Rattle.terms.specs.Terms.{field_of, passing};
+ghost use Rattle.terms.specs.Stored.{nodes_of, ranked_of, signal_of, variable_of};
+ghost use Rattle.terms.specs.Terms.{field_of, has, passing, variable_names};
 
-use super::cast::{Cast, read_kind};
-use lexer::{Declined, Line, Rule, Word};
+use super::cast::Cast;
+use super::script::read_plain;
+use lexer::{Declined, Line, Rule};
 use message::Kind;
 use std::alloc::Global;
 use terms::{
-    Field, Name, Node, Ranked, Scope, Signal, Sort, Usage, Variable, check_usages, decline, expect,
-    find_variable, is_name, note_words, read_signal, read_term, read_value, same_atom, same_signal,
+    Field, Node, Ranked, Scope, Signal, Variable, Variables, find, read_signal, read_term,
+    read_value, same_atom, same_signal,
 };
-
-const MOST_FREE: usize = 5;
 
 const MOST_ATOMS: usize = 12;
 
@@ -28,11 +26,10 @@ const MOST_SEALS: usize = 12;
 
 const MOST_MARKS: usize = 6;
 
-// The free variables with where they first stand, and the ranks of atoms, seals and events.
+// The free variables, and the ranks of atoms, seals and events.
 #[derive(Drop)]
 pub struct Table {
-    pub free: Vec<Variable>,
-    pub usages: Vec<Usage>,
+    pub free: Variables,
     pub atoms: Vec<Ranked<Node>>,
     pub seals: Vec<Ranked<Vec<Node>>>,
     pub marks: Vec<Ranked<Signal>>,
@@ -49,35 +46,7 @@ fn is_numbered(field: Field) -> bool
 fn has_rank_shape(line: &Line) -> bool
     ensures { result ≡ rank_shape (line_of line.now) }
 {
-    if line.is(2, b"key") {
-        line.len() == 5
-    } else {
-        line.len() == 3
-    }
-}
-
-// Whether the atom has a rank already.
-fn is_atom_ranked(atoms: &[Ranked<Node>], atom: Node) -> bool
-    ensures { result ≡ atom_ranked (map (ranked_of (λ n. n)) atoms.now) atom }
-{
-    for ranked in atoms {
-        if same_atom(ranked.what, atom) {
-            return true;
-        }
-    }
-    false
-}
-
-// Whether the event has a rank already.
-fn is_signal_ranked(marks: &[Ranked<Signal>], signal: &Signal) -> bool
-    ensures { result ≡ signal_ranked (map (ranked_of signal_of) marks.now) (signal_of signal.now) }
-{
-    for ranked in marks {
-        if same_signal(&ranked.what, signal) {
-            return true;
-        }
-    }
-    false
+    line.len() == if line.is(2, b"key") { 5 } else { 3 }
 }
 
 // The atom of a `rank` line.
@@ -87,12 +56,16 @@ fn read_atom(cast: &Cast, line: &Line) -> Result<Node, Declined>
     let scope = cast.scope();
     if line.is(2, b"key") {
         let (first, second) = (line.word(3), line.word(4));
-        let first = expect(scope.first_agent(first.text), Rule::Word, first.place)?;
-        let second = expect(scope.first_agent(second.text), Rule::Word, second.place)?;
+        let first = scope
+            .first_agent(first.text)
+            .ok_or(first.fault(Rule::Word))?;
+        let second = scope
+            .first_agent(second.text)
+            .ok_or(second.fault(Rule::Word))?;
         return Ok(Node::Key(first, second));
     }
     let word = line.word(2);
-    let field = expect(find_numbered(&scope, word.text), Rule::Word, word.place)?;
+    let field = find_numbered(&scope, word.text).ok_or(word.fault(Rule::Word))?;
     Ok(Node::Leaf(field))
 }
 
@@ -100,22 +73,17 @@ fn read_atom(cast: &Cast, line: &Line) -> Result<Node, Declined>
 fn find_numbered(scope: &Scope, word: &[u8]) -> Option<Field>
     ensures { result ≡ passing numbered (field_of (scope_of scope.now) word.now) }
 {
-    let field = scope.field(word)?;
-    if is_numbered(field) {
-        Some(field)
-    } else {
-        None
-    }
+    scope.field(word).filter(|field| is_numbered(*field))
 }
 
 impl Table {
     // No line is read yet.
+    #[tactic(auto, unfolding(crate::specs::Kept::table_of))]
     pub fn new(heap: Global) -> Table
         ensures { table_of result ≡ no_table }
     {
         Table {
-            free: Vec::new(heap),
-            usages: Vec::new(heap),
+            free: Variables::new(heap),
             atoms: Vec::new(heap),
             seals: Vec::new(heap),
             marks: Vec::new(heap),
@@ -123,6 +91,7 @@ impl Table {
     }
 
     // What a word of a `seal` line may stand for.
+    #[tactic(auto, unfolding(crate::specs::Kept::cast_of, crate::specs::Kept::table_of))]
     fn scope<'a>(&'a self, cast: &'a Cast) -> Scope<'a>
         ensures { scope_of result ≡ free_scope (cast_of cast.now) (table_of self.now) }
     {
@@ -135,70 +104,43 @@ impl Table {
         }
     }
 
-    // Whether there is room for one more of each.
-    fn has_free_room(&self) -> bool
-        ensures { result ≡ nat_lt (length (table_of self.now).free) 5 }
+    // Whether something with a name of its own or a free variable has this name.
+    #[tactic(auto, unfolding(crate::specs::Kept::table_of))]
+    fn is_taken(&self, cast: &Cast, word: &[u8]) -> bool
+        ensures { result ≡ (taken (cast_of cast.now) word.now || has (variable_names (table_of self.now).free) word.now) }
     {
-        self.free.len() < MOST_FREE
+        cast.is_taken(word) || find(self.free.as_slice(), word).is_some()
     }
 
+    // `free NAME KIND`
+    #[tactic(auto, unfolding(crate::specs::Kept::table_of, crate::specs::Drafts::new_free))]
+    pub fn read_free(&self, cast: &Cast, line: &Line) -> Result<Variable, Declined>
+        ensures { Reads variable_of (free_line (cast_of cast.now) (table_of self.now) (line_of line.now)) result }
+    {
+        let taken = self.is_taken(cast, line.word(1).text);
+        read_plain(line, self.free.len(), taken)
+    }
+
+    // Whether there is room for one more of each. They are calls of their own, since the readings below get no proof where the table is unfolded.
+    #[tactic(auto, unfolding(crate::specs::Kept::table_of))]
     fn has_atom_room(&self) -> bool
         ensures { result ≡ nat_lt (length (table_of self.now).atoms) 12 }
     {
         self.atoms.len() < MOST_ATOMS
     }
 
+    #[tactic(auto, unfolding(crate::specs::Kept::table_of))]
     fn has_seal_room(&self) -> bool
         ensures { result ≡ nat_lt (length (table_of self.now).seals) 12 }
     {
         self.seals.len() < MOST_SEALS
     }
 
+    #[tactic(auto, unfolding(crate::specs::Kept::table_of))]
     fn has_mark_room(&self) -> bool
         ensures { result ≡ nat_lt (length (table_of self.now).marks) 6 }
     {
         self.marks.len() < MOST_MARKS
-    }
-
-    // Whether a free variable may get this name.
-    fn is_new(&self, cast: &Cast, word: &[u8]) -> bool
-        ensures { result ≡ new_free (cast_of cast.now) (table_of self.now) word.now }
-    {
-        is_name(word)
-            && !(cast.is_taken(word) || find_variable(self.free.as_slice(), word).is_some())
-    }
-
-    // The name for a new free variable, if it may get that name.
-    fn new_name(&self, cast: &Cast, word: &[u8]) -> Option<Name>
-        ensures { Gives (new_free (cast_of cast.now) (table_of self.now) word.now) word.now result }
-    {
-        if self.is_new(cast, word) {
-            Some(Name::new(word))
-        } else {
-            None
-        }
-    }
-
-    // `free NAME KIND`
-    pub fn read_free(&self, cast: &Cast, line: &Line) -> Result<Variable, Declined>
-        ensures { Reads variable_of (free_line (cast_of cast.now) (table_of self.now) (line_of line.now)) result }
-    {
-        if line.len() != 3 {
-            return decline(Rule::Line, line.place);
-        }
-        if !self.has_free_room() {
-            return decline(Rule::Count, line.place);
-        }
-        let word = line.word(1);
-        let Some(name) = self.new_name(cast, word.text) else {
-            return decline(Rule::NewName, word.place);
-        };
-        let kind = line.word(2);
-        let kind = expect(read_kind(kind.text), Rule::Word, kind.place)?;
-        Ok(Variable {
-            name,
-            sort: Sort::Plain(kind),
-        })
     }
 
     // `rank V ATOM`
@@ -206,16 +148,16 @@ impl Table {
         ensures { Reads (ranked_of (λ n. n)) (rank_line (cast_of cast.now) (table_of self.now) (line_of line.now)) result }
     {
         if !has_rank_shape(line) {
-            return decline(Rule::Line, line.place);
+            return Err(line.fault(Rule::Line));
         }
         if !self.has_atom_room() {
-            return decline(Rule::Count, line.place);
+            return Err(line.fault(Rule::Count));
         }
         let value = line.word(1);
-        let rank = expect(read_value(value.text), Rule::Value, value.place)?;
+        let rank = read_value(value.text).ok_or(value.fault(Rule::Value))?;
         let what = read_atom(cast, line)?;
         if self.is_ranked(what) {
-            return decline(Rule::Twice, line.place);
+            return Err(line.fault(Rule::Twice));
         }
         Ok(Ranked { rank, what })
     }
@@ -223,7 +165,7 @@ impl Table {
     fn is_ranked(&self, atom: Node) -> bool
         ensures { result ≡ atom_ranked (table_of self.now).atoms atom }
     {
-        is_atom_ranked(self.atoms.as_slice(), atom)
+        self.atoms.iter().any(|ranked| same_atom(ranked.what, atom))
     }
 
     // `seal V AGENT AGENT TERM`
@@ -236,21 +178,23 @@ impl Table {
         ensures { Reads (ranked_of nodes_of) (seal_line (cast_of cast.now) (table_of self.now) (line_of line.now)) result }
     {
         if line.len() < 4 {
-            return decline(Rule::Line, line.place);
+            return Err(line.fault(Rule::Line));
         }
         if !self.has_seal_room() {
-            return decline(Rule::Count, line.place);
+            return Err(line.fault(Rule::Count));
         }
         let (value, first, second) = (line.word(1), line.word(2), line.word(3));
-        let rank = expect(read_value(value.text), Rule::Value, value.place)?;
+        let rank = read_value(value.text).ok_or(value.fault(Rule::Value))?;
         let scope = self.scope(cast);
-        let first = expect(scope.first_agent(first.text), Rule::Word, first.place)?;
-        let second = expect(scope.second_agent(second.text), Rule::Word, second.place)?;
+        let first = scope
+            .first_agent(first.text)
+            .ok_or(first.fault(Rule::Word))?;
+        let second = scope
+            .second_agent(second.text)
+            .ok_or(second.fault(Rule::Word))?;
         let content = read_term(heap, &scope, line.place, line.from(4))?;
-        Ok(Ranked {
-            rank,
-            what: sealed(heap, first, second, content)?,
-        })
+        let what = sealed(heap, first, second, content)?;
+        Ok(Ranked { rank, what })
     }
 
     // `mark V WORD ATOMS`
@@ -263,16 +207,16 @@ impl Table {
         ensures { Reads (ranked_of signal_of) (mark_line (cast_of cast.now) (table_of self.now) (line_of line.now)) result }
     {
         if line.len() < 4 || line.len() > 7 {
-            return decline(Rule::Line, line.place);
+            return Err(line.fault(Rule::Line));
         }
         if !self.has_mark_room() {
-            return decline(Rule::Count, line.place);
+            return Err(line.fault(Rule::Count));
         }
         let value = line.word(1);
-        let rank = expect(read_value(value.text), Rule::Value, value.place)?;
+        let rank = read_value(value.text).ok_or(value.fault(Rule::Value))?;
         let what = read_signal(heap, &cast.scope(), line.word(2), line.from(3))?;
         if self.is_marked(&what) {
-            return decline(Rule::Twice, line.place);
+            return Err(line.fault(Rule::Twice));
         }
         Ok(Ranked { rank, what })
     }
@@ -280,51 +224,9 @@ impl Table {
     fn is_marked(&self, signal: &Signal) -> bool
         ensures { result ≡ signal_ranked (table_of self.now).marks (signal_of signal.now) }
     {
-        is_signal_ranked(self.marks.as_slice(), signal)
-    }
-
-    // One free variable more, declared at this place.
-    pub fn add_free(&mut self, place: usize, variable: Variable) -> Result<(), Declined>
-        ensures { Becomes table_of (Ok (more_free (table_of self.old) place (variable_of variable))) self.new result }
-    {
-        self.free.push(variable)?;
-        self.usages.push(Usage {
-            declared: place,
-            first: None,
-        })?;
-        Ok(())
-    }
-
-    // One `rank` line more.
-    pub fn add_rank(&mut self, ranked: Ranked<Node>) -> Result<(), Declined>
-        ensures { Becomes table_of (Ok (more_atom (table_of self.old) (ranked_of (λ n. n) ranked))) self.new result }
-    {
-        self.atoms.push(ranked)?;
-        Ok(())
-    }
-
-    // One `seal` line more, with its words in which variables may stand.
-    pub fn add_seal(&mut self, ranked: Ranked<Vec<Node>>, words: &[Word]) -> Result<(), Declined>
-        ensures { Becomes table_of (Ok (more_seal (table_of self.old) (ranked_of nodes_of ranked) (words_of words.now))) self.new result }
-    {
-        note_words(self.free.as_slice(), &mut self.usages, words, true);
-        self.seals.push(ranked)?;
-        Ok(())
-    }
-
-    // One `mark` line more.
-    pub fn add_mark(&mut self, ranked: Ranked<Signal>) -> Result<(), Declined>
-        ensures { Becomes table_of (Ok (more_mark (table_of self.old) (ranked_of signal_of ranked))) self.new result }
-    {
-        self.marks.push(ranked)?;
-        Ok(())
-    }
-
-    // That each free variable stands in some `seal` line.
-    pub fn check(&self) -> Result<(), Declined>
-        ensures { Reads (λ u. u) (check_usages (table_of self.now).free (table_of self.now).usages) result }
-    {
-        check_usages(self.free.as_slice(), self.usages.as_slice())
+        self.marks
+            .iter()
+            .any(|ranked| same_signal(&ranked.what, signal))
     }
 }
 

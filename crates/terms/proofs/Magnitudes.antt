@@ -1,36 +1,51 @@
--- Numbers from their digits, one at a time.
-use Rattle.std.proofs.Common.{◌≡◌, ℕ, ◌+◌, ◌-◌, ◌*◌, ◌<◌, ◌≤◌, Bool, true, false, ◌&&◌, leb, List, [], ◌∷◌, length, get_or, drop, Some, None, sym, ap, ◌∙◌, arith}
-use Rattle.std.proofs.lemmas.List.{at_drop_more}
-use Rattle.std.proofs.lemmas.Bool.{and_from, and_left, and_right, cond-false, cond-true, le-leb, lt-leb}
-use Rattle.std.specs.Char.{is_ascii_digit}
-use Rattle.terms.specs.Terms.{digits, magnitude, number, plain_digits, unpadded}
+-- Numbers from their digits, as std reads them.
+use Rattle.std.proofs.Common.{◌≡◌, ℕ, ◌^◌, ◌<◌, ◌≤◌, Bool, true, false, cond, ◌&&◌, leb, List, length, get_or, Some, None, Ok, Err, Option, Result, Bor, MatchResult, sym, refl, ap, ◌∙◌, arith, rules}
+use Rattle.std.proofs.lemmas.Bool.{and_parts, leb-true, lt-leb}
+use Rattle.std.proofs.lemmas.Grind.{common_steps}
+use Rattle.std.proofs.lemmas.Str.{IsUtf8-from_ascii}
+use Rattle.std.proofs.lemmas.Str.Parse.{IsNumeralModel, digit_at, numerals_by_fold, parse_digits}
+use Rattle.std.specs.Bool.{then_some}
+use Rattle.std.specs.Result.{OkIff, result_ok}
+use Rattle.std.specs.Str.{IsUtf8}
+use Rattle.std.specs.Str.Parse.{ParsesUnsigned}
+use Rattle.terms.specs.Terms.{digits, magnitude, number, unpadded}
 
--- the digit at i, and those after it
-pub digits_step : (cs : List ℕ) (i : ℕ) (r : Bool) → i < length cs → r ≡ is_ascii_digit (get_or cs i 0) → digits (drop i cs) ≡ (r && digits (drop (i + 1) cs))
-digits_step cs i r h e = at_drop_more digits cs i 0 h ∙ ap (λ b. b && digits (drop (i + 1) cs)) (sym e)
+-- the digits of std and the number that they write are these
+own : IsNumeralModel (λ cs. digits cs ≡ true) (number 0)
+own = numerals_by_fold _ (search rules) number (search rules)
 
-pub number_step : (cs : List ℕ) (i n : ℕ) → i < length cs → number n (drop i cs) ≡ number (n * 10 + (get_or cs i 0 - 48)) (drop (i + 1) cs)
-number_step cs i n h = at_drop_more (number n) cs i 0 h
+-- a number, if it is at most the largest
+abbrev pub capped : Option ℕ → Option ℕ
+capped None = None
+capped (Some n) = then_some (leb n 32768) n
 
--- more digits make no smaller number
-number-least : (n : ℕ) (cs : List ℕ) → n ≤ number n cs
-number-least n [] = omega arith
-number-least n (c ∷ cs) = omega (arith, number-least (n * 10 + (c - 48)) cs)
+module _ (cs : List ℕ) (d : true ≡ digits cs) where
+  ascii : (i : ℕ) → get_or cs i 0 < 128
+  ascii i = let h = digit_at cs i (own.to cs (sym d)) in grind (arith, common_steps, h)
 
-module _ (cs : List ℕ) where
-  -- what is no number, or too large a one
-  none : (plain_digits cs && leb (number 0 cs) 32768) ≡ false → None ≡ magnitude cs
-  none h = sym (cond-false _ _ _ h)
+  -- digits are a text
+  pub no-text : {E : Type 0} (V : E → Type 0) (u : Result (Bor (List ℕ)) E) → MatchResult u (λ s. (s.now ≡ cs) × IsUtf8 cs) (λ e. (¬ IsUtf8 cs) × V e) → result_ok u ≡ None → ⊥
+  no-text V (Ok s) h e = cc
+  no-text V (Err x) h e = h.0 (IsUtf8-from_ascii cs ascii)
 
-  pub not-digits : digits cs ≡ false → None ≡ magnitude cs
-  not-digits h = none (and_left _ _ (and_left _ _ h))
+  pub text-is : {E : Type 0} (V : E → Type 0) (u : Result (Bor (List ℕ)) E) → MatchResult u (λ s. (s.now ≡ cs) × IsUtf8 cs) (λ e. (¬ IsUtf8 cs) × V e) → (s : Bor (List ℕ)) → Some s ≡ result_ok u → s.now ≡ cs
+  text-is V (Ok t) h s e = let same : s ≡ t = cc in ap (λ x. x.now) same ∙ h.0
+  text-is V (Err x) h s e = cc
 
-  pub padded : unpadded cs ≡ false → None ≡ magnitude cs
-  padded h = none (and_left _ _ (and_right (digits cs) _ h))
+  -- what std reads of them is their number, if that is not too large
+  pub parsed : {E : Type 0} → true ≡ unpadded cs → (t : List ℕ) (r : Result ℕ E) → ParsesUnsigned 16 10 t r → t ≡ cs → capped (result_ok r) ≡ magnitude cs
+  parsed u t r h is = by r (parse_digits own 16 cs r (rw is at h) (sym d)) ∙ plain (digits cs) (unpadded cs) (number 0 cs) d u
+    where
+      some : 1 ≤ length cs
+      some = leb-true 1 (length cs) (and_parts (leb 1 (length cs)) _ (sym u)).0
 
-  pub too_large : (i n : ℕ) → number 0 cs ≡ number n (drop i cs) → i < length cs → 32768 < n * 10 + (get_or cs i 0 - 48) → None ≡ magnitude cs
-  too_large i n e h large = none (and_right (plain_digits cs) _ (lt-leb _ _ (omega (arith, number_step cs i n h, number-least (n * 10 + (get_or cs i 0 - 48)) (drop (i + 1) cs)))))
+      plain : (d u : Bool) (n : ℕ) → true ≡ d → true ≡ u → capped (Some n) ≡ cond (d && u && leb n 32768) (Some n) None
+      plain true true n _ _ = elim (leb n 32768) as (λ b. then_some b n ≡ cond b (Some n) None) [ true ↦ refl | false ↦ refl ]
+      plain true false n _ e = cc
+      plain false u n e _ = cc
 
-  -- the number that they write
-  pub some-magnitude : (n : ℕ) → digits cs ≡ true → unpadded cs ≡ true → number 0 cs ≡ n → n ≤ 32768 → Some n ≡ magnitude cs
-  some-magnitude n d u e h = ap Some (sym e) ∙ sym (cond-true _ _ _ (and_from _ _ (and_from _ _ d u) (le-leb _ _ (omega arith))))
+      by : {E : Type 0} (r : Result ℕ E) → OkIff r ((0 < length cs) × (number 0 cs < 2 ^ 16)) (number 0 cs) → capped (result_ok r) ≡ capped (Some (number 0 cs))
+      by (Ok n) (q, same) = ap (λ n. capped (Some n)) same
+      by (Err x) more =
+          let large : 2 ^ 16 ≤ number 0 cs = grind (arith, some, more) in
+          sym (ap (λ b. then_some b (number 0 cs)) (lt-leb (number 0 cs) 32768 (omega arith)))

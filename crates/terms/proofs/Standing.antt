@@ -1,6 +1,9 @@
 -- Where variables first stand, one word and one variable at a time.
-use Rattle.std.proofs.Common.{◌≡◌, ℕ, ◌+◌, ◌<◌, ◌≤◌, Bool, cond, List, [], ◌∷◌, ◌++◌, map, length, get_or, take, drop, set, Some, Ok, Result, sym, refl, ap, ◌∙◌, arith}
-use Rattle.std.proofs.lemmas.List.{append_assoc, append-nil, at_drop_more, drop_all, drop_more, drop-set-lt, take_all, take-append-drop, take_more_set}
+use Rattle.std.proofs.Common.{◌≡◌, ℕ, ◌+◌, ◌<◌, ◌≤◌, Bool, true, false, cond, List, [], ◌∷◌, ◌++◌, map, length, min, get_or, take, drop, set, inl, inr, Some, Ok, Option, Result, sym, refl, ap, ◌∙◌, arith}
+use Rattle.std.proofs.lemmas.Bool.{cases_lt}
+use Rattle.std.proofs.lemmas.List.{append_assoc, append-nil, drop_all, drop_more, drop-set-lt, take_all, take-append-drop, take_more_set}
+use Rattle.std.specs.List.{find}
+use Rattle.std.specs.Option.{option_map}
 use Rattle.std.specs.Str.{bytes_eq}
 use Rattle.lexer.specs.declared.Fault.{Fault}
 use Rattle.lexer.specs.declared.Word.{Word}
@@ -13,9 +16,14 @@ use Rattle.terms.specs.Sheet as model
 use Rattle.terms.specs.Stored.{variable_of}
 use Rattle.terms.specs.Terms.{and_then}
 
--- a name stands at the word at i, or after it
-pub place-step : (ws : List Word) (name : List ℕ) (i : ℕ) (d : Word) (r : Bool) → i < length ws → r ≡ bytes_eq (get_or ws i d).text.now name → place_of (words_of (drop i ws)) name ≡ cond r (Some (get_or ws i d).place) (place_of (words_of (drop (i + 1) ws)) name)
-place-step ws name i d r h e = at_drop_more (λ l. place_of (words_of l) name) ws i d h ∙ ap (λ b. cond b (Some (get_or ws i d).place) (place_of (words_of (drop (i + 1) ws)) name)) (sym e)
+place-cond : (b : Bool) (w : Word) (o : Option Word) → option_map (λ x. x.place) (cond b (Some w) o) ≡ cond b (Some w.place) (option_map (λ x. x.place) o)
+place-cond true w o = refl
+place-cond false w o = refl
+
+-- the first word that is this name lies at the place that is asked for
+pub place-found : (ws : List Word) (name : List ℕ) → option_map (λ w. w.place) (find (λ w. bytes_eq w.text.now name) ws) ≡ place_of (words_of ws) name
+place-found [] name = refl
+place-found (w ∷ ws) name = place-cond (bytes_eq w.text.now name) w (find (λ x. bytes_eq x.text.now name) ws) ∙ ap (cond (bytes_eq w.text.now name) (Some w.place)) (place-found ws name)
 
 -- the variables from i on
 module _ (vs : List Variable) (i : ℕ) where
@@ -77,3 +85,7 @@ module _ (vs : List Variable) (us : List Usage) where
   -- the usage at i is checked, then those after it
   pub checked-more : (i : ℕ) (d : Variable) (e : Usage) → i < length vs → i < length us → check_from i ≡ and_then (check_first (get_or vs i d).sort (get_or us i e).declared (get_or us i e).first) (λ _. check_from (i + 1))
   checked-more i d e hv hu = ap (λ l. check_usages l (drop i us)) (one-variable vs i d hv) ∙ ap (check_usages (variable_of (get_or vs i d) ∷ map variable_of (drop (i + 1) vs))) (drop_more us i e hu)
+
+  -- both at once, where a loop over the two together ends
+  pub checked-end : (i : ℕ) → i ≡ min (length vs) (length us) → check_from i ≡ Ok tt
+  checked-end i h = elim (cases_lt (length vs) (length us)) [ inl e ↦ checked-variables i (omega arith) | inr e ↦ checked-all i (omega arith) ]

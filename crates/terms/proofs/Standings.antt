@@ -1,22 +1,21 @@
--- Loops over the nodes of a term, over atoms and over the steps of a script.
-use Rattle.std.proofs.Common.{◌≡◌, ℕ, ◌+◌, ◌<◌, Bool, cond, ◌||◌, List, map, length, get_or, drop, sym, ap, ◌∙◌}
-use Rattle.std.proofs.lemmas.List.{at_drop_more}
+-- The first step of a script in which a variable stands.
+use Rattle.std.proofs.Common.{◌≡◌, ℕ, Bool, true, false, cond, List, [], ◌∷◌, map, Some, None, Option, MatchOption, Bor, ap, ◌∙◌}
+use Rattle.std.specs.Option.{option_map}
+use Rattle.std.specs.List.{find}
 use Rattle.terms.specs.declared.stored.Step.{Step}
-use Rattle.terms.specs.declared.term.Field.{Field}
-use Rattle.terms.specs.declared.term.Node.{Node}
 use Rattle.terms.specs.Stored.{step_of}
-use Rattle.terms.specs.Variables.{is_variable, received, receives, stands_among, stands_at, stands_in, stands_in_step}
+use Rattle.terms.specs.Variables.{received, receives, stands_in_step}
 
-pub node-step : (ns : List Node) (v i : ℕ) (d : Node) {b : Bool} → i < length ns → b ≡ stands_at v (get_or ns i d) → stands_in v (drop i ns) ≡ (b || stands_in v (drop (i + 1) ns))
-node-step ns v i d h e =
-    at_drop_more (λ l. stands_in v l) ns i d h ∙ ap (λ t. t || stands_in v (drop (i + 1) ns)) (sym e)
-
-pub field_step : (fs : List Field) (v i : ℕ) (d : Field) {b : Bool} → i < length fs → b ≡ is_variable v (get_or fs i d) → stands_among v (drop i fs) ≡ (b || stands_among v (drop (i + 1) fs))
-field_step fs v i d h e =
-    at_drop_more (λ l. stands_among v l) fs i d h ∙ ap (λ t. t || stands_among v (drop (i + 1) fs)) (sym e)
-
-pub step-step : (ss : List Step) (v i : ℕ) (x : Step) {b : Bool} → i < length ss → x ≡ get_or ss i x → b ≡ stands_in_step v (step_of x) → received v (map step_of (drop i ss)) ≡ cond b (receives (step_of x)) (received v (map step_of (drop (i + 1) ss)))
-step-step ss v i x h is e =
-    at_drop_more (λ l. received v (map step_of l)) ss i x h
-    ∙ ap (λ y. cond (stands_in_step v (step_of y)) (receives (step_of y)) (received v (map step_of (drop (i + 1) ss)))) (sym is)
-    ∙ ap (λ t. cond t (receives (step_of x)) (received v (map step_of (drop (i + 1) ss)))) (sym e)
+-- Where a search for the first step in which a variable stands came to r, the variable is received exactly if that step receives.
+pub received-found : (v : ℕ) (ss : List Step) (r : Option (Bor Step)) (b : Bool) → option_map (λ s. s.now) r ≡ find (λ s. stands_in_step v (step_of s)) ss → MatchOption r (b ≡ false) (λ s. b ≡ receives (step_of s.now)) → b ≡ received v (map step_of ss)
+received-found v [] None b e is = is
+received-found v [] (Some x) b e is = cc
+received-found v (s ∷ ss) r b e is = by (stands_in_step v (step_of s)) e (λ later. received-found v ss r b later is)
+  where
+    by : (stands : Bool) → option_map (λ s. s.now) r ≡ cond stands (Some s) (find (λ s. stands_in_step v (step_of s)) ss) → (option_map (λ s. s.now) r ≡ find (λ s. stands_in_step v (step_of s)) ss → b ≡ received v (map step_of ss)) → b ≡ cond stands (receives (step_of s)) (received v (map step_of ss))
+    by true e rest = here r e is
+      where
+        here : (r : Option (Bor Step)) → option_map (λ s. s.now) r ≡ Some s → MatchOption r (b ≡ false) (λ s. b ≡ receives (step_of s.now)) → b ≡ receives (step_of s)
+        here None e is = cc
+        here (Some x) e is = let same : x.now ≡ s = cc in is ∙ ap (λ s. receives (step_of s)) same
+    by false e rest = rest e

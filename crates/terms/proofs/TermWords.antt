@@ -1,23 +1,17 @@
 -- Reading words one by one: what is read so far, carried on over the rest, is the whole reading.
-use Rattle.std.proofs.Common.{◌≡◌, ℕ, ◌+◌, ◌-◌, ◌<◌, ◌≤◌, Bool, true, false, cond, ◌||◌, eqb, List, [], ◌∷◌, ◌++◌, length, get_or, drop, Some, None, Ok, Err, Option, Result, sym, refl, ap, ◌∙◌, arith}
+use Rattle.std.proofs.Common.{◌≡◌, ℕ, ◌+◌, ◌-◌, ◌<◌, ◌≤◌, Bool, true, false, cond, ◌||◌, eqb, List, [], ◌∷◌, ◌++◌, length, get_or, drop, Some, None, Ok, Err, Option, Result, sym, ap, ◌∙◌, arith}
 use Rattle.std.proofs.lemmas.List.{at_drop_more, at_drop_all}
 use Rattle.lexer.specs.declared.Declined.{Declined}
 use Rattle.lexer.specs.declared.Fault.{Fault}
-use Rattle.lexer.specs.declared.Rule.{Rule}
 use Rattle.lexer.specs.declared.Rule.TheVariants as rule
 use Rattle.lexer.specs.declared.Word.{Word}
 use Rattle.lexer.specs.Text.{WordAt, word_of, words_of}
 use Rattle.terms.specs.declared.term.Expect.{Expect}
 use Rattle.terms.specs.declared.term.Field.{Field}
 use Rattle.terms.specs.declared.term.Node.{Node}
-use Rattle.terms.specs.Outcomes.{Reads, asked}
-use Rattle.terms.proofs.Breaks.{reads-break}
+use Rattle.terms.specs.Outcomes.{Becomes, Reads}
+use Rattle.terms.proofs.Breaks.{becomes-break}
 use Rattle.terms.specs.Terms.{Progress, Scope, and_then, complete, fault, field_of, fields_from, or_fault, read_term, term_from, word_on}
-
--- what is asked for is read where it is there, and else its fault
-pub asked-reads : {X : Type 0} (o : Option X) (r : Rule) (at : ℕ) (x : Result X Declined) → x ≡ asked o r at → Reads (λ x. x) (or_fault o r at) x
-asked-reads None r at x e = rw e refl
-asked-reads (Some y) r at x e = rw e refl
 
 -- the atoms so far, with those of the rest, are the atoms of all the words
 pub record FieldsSofar (s : Scope) (ws : List Word) (done : List Field) (i : ℕ) : Type 0 where
@@ -34,16 +28,16 @@ module _ {s : Scope} {ws : List Word} {done : List Field} {i : ℕ} (h : FieldsS
     fields_on r = and_then r (λ f. fields_from s (done ++ (f ∷ [])) (words_of (drop (i + 1) ws)))
 
     -- the next word is read, and then the rest
-    next : fields_from s [] (words_of ws) ≡ fields_on (or_fault o rule.Word (get_or ws i d).place)
-    next = h.rest ∙ at_drop_more (λ r. fields_from s done (words_of r)) ws i d lt ∙ ap (λ o. fields_on (or_fault o rule.Word (get_or ws i d).place)) (sym is)
+    next : {read : Option Field} → o ≡ read → fields_from s [] (words_of ws) ≡ fields_on (or_fault read rule.Word (get_or ws i d).place)
+    next e = h.rest ∙ at_drop_more (λ r. fields_from s done (words_of r)) ws i d lt ∙ ap (λ o. fields_on (or_fault o rule.Word (get_or ws i d).place)) (sym is ∙ e)
 
     -- a word that stands for something brings it to the atoms
-    pub fields-more : {f : Field} → Ok f ≡ asked o rule.Word (get_or ws i d).place → FieldsSofar s ws (done ++ (f ∷ [])) (i + 1)
-    fields-more e = record { rest = next ∙ ap fields_on (asked-reads o _ _ _ e) }
+    pub fields-more : {f : Field} → o ≡ Some f → FieldsSofar s ws (done ++ (f ∷ [])) (i + 1)
+    fields-more e = record { rest = next e }
 
     -- a word that stands for nothing is the fault
-    pub fields-break : {X : Type 0} (of : X → List Field) (e : Declined) → Err e ≡ asked o rule.Word (get_or ws i d).place → Reads of (fields_from s [] (words_of ws)) (Err e)
-    fields-break of e h = reads-break (λ f. f) of _ _ _ e next (asked-reads o _ _ (Err e) h)
+    pub fields-break : o ≡ None → fields_from s [] (words_of ws) ≡ fault rule.Word (get_or ws i d).place
+    fields-break e = next e
 
 -- a word raises the number of terms to come by at most one
 wanted-more : (s : Scope) (x : Expect) (n : ℕ) (done : List Node) (w : WordAt) (q : Progress) → word_on s x n done w ≡ Ok q → q.wanted ≤ n + 1
@@ -89,5 +83,5 @@ module _ {s : Scope} {at : ℕ} {ws : List Word} {p : Progress} {i : ℕ} (h : T
     }
 
     -- a word that is not read is the fault
-    pub term-break : false ≡ (complete p || eqb (32 - i) 0) → {X Y : Type 0} (of : X → Progress) (to : Y → List Node) (e : Declined) → Reads of here (Err e) → Reads to (read_term s at (words_of ws)) (Err e)
-    term-break is of to e k = reads-break of to here _ _ e (by false is) k
+    pub term-break : false ≡ (complete p || eqb (32 - i) 0) → {X Y : Type 0} (of : X → Progress) (to : Y → List Node) (after : X) (e : Declined) → Becomes of here after (Err e) → Reads to (read_term s at (words_of ws)) (Err e)
+    term-break is of to after e k = becomes-break of to after here _ _ e (by false is) k

@@ -1,5 +1,6 @@
 -- Names: their form, the words that are none, and finding one in a list.
-use Rattle.std.specs.Prelude.{ℕ, ◌+◌, Bool, true, false, cond, not, ◌&&◌, ◌||◌, List, [], ◌∷◌, length, take, Some, None, codes, Option, nat_le}
+use Rattle.std.specs.Prelude.{ℕ, ◌+◌, Bool, false, cond, not, ◌&&◌, List, [], ◌∷◌, length, Some, None, codes, Option, nat_le}
+use Rattle.std.specs.List.{list_all, list_any}
 use Rattle.std.specs.Option.{option_map}
 use Rattle.std.specs.Char.{is_ascii_alphanumeric, is_ascii_alphabetic}
 use Rattle.std.specs.Str.{bytes_eq}
@@ -7,7 +8,7 @@ use Rattle.terms.specs.declared.name.Name.{Name}
 
 -- the letters of a name
 abbrev pub letters : Name → List ℕ
-letters n = take n.len n.bytes
+letters n = n.letters
 
 -- the words of the format, which are no names
 abbrev pub reserved : List (List ℕ)
@@ -19,8 +20,7 @@ reserved =
 
 -- whether the word is among these
 abbrev pub among : List (List ℕ) → List ℕ → Bool
-among [] w = false
-among (x ∷ xs) w = bytes_eq x w || among xs w
+among words w = list_any (λ x. bytes_eq x w) words
 
 -- the number of the first that is this word, counted from 0
 abbrev pub index_of : List (List ℕ) → List ℕ → Option ℕ
@@ -28,8 +28,7 @@ index_of [] w = None
 index_of (x ∷ xs) w = cond (bytes_eq x w) (Some 0) (option_map (λ i. i + 1) (index_of xs w))
 
 abbrev pub alphanumeric : List ℕ → Bool
-alphanumeric [] = true
-alphanumeric (b ∷ bs) = is_ascii_alphanumeric b && alphanumeric bs
+alphanumeric w = list_all is_ascii_alphanumeric w
 
 abbrev pub begins_with_letter : List ℕ → Bool
 begins_with_letter [] = false

@@ -1,6 +1,6 @@
 -- How the words of a line are read: what a name stands for in its place, terms, the atoms of a signal, values.
 use Rattle.std.specs.Prelude.{ℕ, ◌+◌, ◌-◌, ◌*◌, Bool, true, false, cond, not, ◌&&◌, ◌||◌, List, [], ◌∷◌, ◌++◌, map, length, drop, ℤ, pos, negsuc, is_some, Some, None, Ok, Err, codes, Option, Result, ◌==◌, nat_le, slice_index}
-use Rattle.std.specs.List.{slice_get}
+use Rattle.std.specs.List.{list_all, slice_get}
 use Rattle.std.specs.Option.{option_map}
 use Rattle.std.specs.Char.{is_ascii_digit}
 use Rattle.std.specs.Str.{bytes_eq}
@@ -159,8 +159,7 @@ read_signal s w ws =
 
 -- A whole number without leading zeros, from its digits.
 abbrev pub digits : List ℕ → Bool
-digits [] = true
-digits (c ∷ cs) = is_ascii_digit c && digits cs
+digits cs = list_all is_ascii_digit cs
 
 abbrev pub number : ℕ → List ℕ → ℕ
 number n [] = n

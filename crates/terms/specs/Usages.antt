@@ -1,5 +1,5 @@
 -- Where variables first stand, and what that has to be.
-use Rattle.std.specs.Prelude.{ℕ, Bool, true, false, cond, not, ◌&&◌, List, [], ◌∷◌, Some, None, Ok, Option, Result}
+use Rattle.std.specs.Prelude.{ℕ, Bool, true, false, cond, not, ◌&&◌, List, [], ◌∷◌, ◌++◌, vec_items, Some, None, Ok, Option, Result}
 use Rattle.std.specs.Str.{bytes_eq}
 use Rattle.message.specs.declared.Kind.TheVariants as kind
 use Rattle.lexer.specs.declared.Fault.{Fault}
@@ -9,7 +9,9 @@ use Rattle.terms.specs.declared.term.Sort.{Sort}
 use Rattle.terms.specs.declared.term.Sort.TheVariants.{Fresh, Plain}
 use Rattle.terms.specs.declared.usages.First.{First}
 use Rattle.terms.specs.declared.usages.Usage.{Usage}
+use Rattle.terms.specs.declared.usages.Variables.{Variables}
 use Rattle.terms.specs.Sheet.{Variable}
+use Rattle.terms.specs.Stored.{items, variable_of}
 use Rattle.terms.specs.Terms.{and_then, fault}
 
 -- the place of the first of these words that is this name
@@ -50,3 +52,22 @@ abbrev pub check_usages : List Variable → List Usage → Result (Unit {0}) Fau
 check_usages [] us = Ok tt
 check_usages (v ∷ vs) [] = Ok tt
 check_usages (v ∷ vs) (u ∷ us) = and_then (check_first v.sort u.declared u.first) (λ _. check_usages vs us)
+
+-- Variables in the order in which they are declared, and how each is used; and what the code keeps of that.
+pub record Declared : Type 0 where
+  pub variables : List Variable
+  pub usages : List Usage
+
+abbrev pub declared_of : Variables → Declared
+declared_of v = record { variables = items variable_of v.list; usages = vec_items v.usages }
+
+abbrev pub undeclared : Declared
+undeclared = record { variables = []; usages = [] }
+
+-- one variable more, declared at this place, which stands nowhere yet
+abbrev pub one_more : Declared → ℕ → Variable → Declared
+one_more d at v = record { variables = d.variables ++ (v ∷ []); usages = d.usages ++ (record { declared = at; first = None } ∷ []) }
+
+-- one line more, which receives or does not
+abbrev pub noted_in : Declared → List WordAt → Bool → Declared
+noted_in d ws received = record { variables = d.variables; usages = note_all d.variables d.usages ws received }

@@ -1,5 +1,6 @@
 -- Where a variable stands in a script, and whether it is received.
 use Rattle.std.specs.Prelude.{ℕ, Bool, true, false, cond, ◌||◌, List, [], ◌∷◌, ◌==◌}
+use Rattle.std.specs.List.{list_any}
 use Rattle.terms.specs.declared.term.Field.{Field}
 use Rattle.terms.specs.declared.term.Field.TheVariants.{Player, Variable, Named}
 use Rattle.terms.specs.declared.term.Node.{Node}
@@ -21,13 +22,11 @@ stands_at i (node.Seal f g) = is_variable i f || is_variable i g
 
 -- The variable stands at some node of a term.
 abbrev pub stands_in : ℕ → List Node → Bool
-stands_in i [] = false
-stands_in i (n ∷ ns) = stands_at i n || stands_in i ns
+stands_in i ns = list_any (stands_at i) ns
 
 -- The variable is one of these atoms.
 abbrev pub stands_among : ℕ → List Field → Bool
-stands_among i [] = false
-stands_among i (f ∷ fs) = is_variable i f || stands_among i fs
+stands_among i fs = list_any (is_variable i) fs
 
 -- The variable stands in what the step sends, receives or signals.
 abbrev pub stands_in_step : ℕ → Step → Bool

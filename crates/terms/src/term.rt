@@ -2,7 +2,7 @@
 use message::Kind;
 
 // What an atom of a term is: the agent that plays the role, which the format calls `self`; the variable of a number; or the named agent, nonce or text of a number.
-#[derive(Clone, Copy, PartialEq, Eq)]
+#[derive(Clone, Copy, Debug, PartialEq, Eq)]
 pub enum Field {
     Player,
     Variable(usize),
@@ -10,7 +10,7 @@ pub enum Field {
 }
 
 // One node of a term in prefix order: an atom; a pair, whose two terms follow; the key of two agents; or a seal under such a key, whose content follows.
-#[derive(Clone, Copy, PartialEq, Eq)]
+#[derive(Clone, Copy, Debug, PartialEq, Eq)]
 pub enum Node {
     Leaf(Field),
     Pair,
@@ -19,21 +19,21 @@ pub enum Node {
 }
 
 // What a variable stands for: a nonce that the session makes itself, or an atom of a kind.
-#[derive(Clone, Copy, PartialEq, Eq)]
+#[derive(Clone, Copy, Debug, PartialEq, Eq)]
 pub enum Sort {
     Fresh,
     Plain(Kind),
 }
 
 // What begins with two agents.
-#[derive(Clone, Copy)]
+#[derive(Clone, Copy, Debug, PartialEq, Eq)]
 pub enum Opening {
     Key,
     Seal,
 }
 
 // What the next word of a term has to be: the beginning of a term, or the first or second agent of a key or seal.
-#[derive(Clone, Copy)]
+#[derive(Clone, Copy, Debug, PartialEq, Eq)]
 pub enum Expect {
     Term,
     First(Opening),

@@ -1,15 +1,15 @@
 // Where variables first stand.
-ghost use Rattle.std.specs.Prelude.{◌≡◌, map};
+ghost use Rattle.std.specs.Prelude.{◌≡◌, map, length, Ok};
 ghost use Rattle.lexer.specs.Text.{words_of};
-ghost use Rattle.terms.specs.Usages.{check_first, check_usages, foreign_nonce, note_all, noted, place_of};
-ghost use Rattle.terms.specs.Outcomes.{Reads};
-ghost use Rattle.terms.specs.Stored.{variable_of};
+ghost use Rattle.terms.specs.Usages.{check_first, check_usages, declared_of, noted, noted_in, one_more, place_of, undeclared};
+ghost use Rattle.terms.specs.Outcomes.{Becomes, Reads};
+ghost use Rattle.terms.specs.Stored.{items, variable_of};
 
-use super::reader::decline;
 use super::stored::Variable;
 use super::term::Sort;
 use lexer::{Declined, Rule, Word};
 use message::Kind;
+use std::alloc::Global;
 
 // Where a variable first stands, and whether that line receives.
 #[derive(Clone, Copy)]
@@ -25,75 +25,117 @@ pub struct Usage {
     pub first: Option<First>,
 }
 
+// Variables in the order in which they are declared, and how each is used. It has no model, since with one the proofs of its two loops did not close.
+#[derive(Drop)]
+pub struct Variables {
+    list: Vec<Variable>,
+
+    // Beside the list and not in it, since a scope lends the variables alone as one slice, and a role keeps that list.
+    usages: Vec<Usage>,
+}
+
+impl Variables {
+    // None is declared yet.
+    pub fn new(heap: Global) -> Variables
+        ensures { declared_of result ≡ undeclared }
+    {
+        Variables {
+            list: Vec::new(heap),
+            usages: Vec::new(heap),
+        }
+    }
+
+    // How many there are.
+    pub fn len(&self) -> usize
+        ensures { result ≡ length (declared_of self.now).variables }
+    {
+        self.list.len()
+    }
+
+    // The variables alone.
+    pub fn as_slice(&self) -> &[Variable]
+        ensures { map variable_of result.now ≡ (declared_of self.now).variables }
+    {
+        self.list.as_slice()
+    }
+
+    // The same as the list that a role keeps.
+    pub fn into_list(self) -> Vec<Variable>
+        ensures { items variable_of result ≡ (declared_of self).variables }
+    {
+        let Variables { list, usages: _ } = self;
+        list
+    }
+
+    // One variable more, declared at this place.
+    #[tactic(auto, using(std::proofs::lemmas::List::map_push))]
+    pub fn add(&mut self, place: usize, variable: Variable) -> Result<(), Declined>
+        ensures { Becomes declared_of (Ok (one_more (declared_of self.old) place (variable_of variable))) self.new result }
+    {
+        self.list.push(variable)?;
+        self.usages.push(Usage {
+            declared: place,
+            first: None,
+        })?;
+        Ok(())
+    }
+
+    // Notes where variables first stand in one more line, which receives or does not.
+    pub fn note(&mut self, words: &[Word], received: bool)
+        ensures { declared_of self.new ≡ noted_in (declared_of self.old) (words_of words.now) received }
+    {
+        // Counted, since after an adapter of `iter_mut` the check knows nothing of what was written.
+        for (i, variable) in self.list.iter().enumerate() {
+            if i >= self.usages.len() {
+                return;
+            }
+            self.usages[i] = self.usages[i].after(variable.name.as_bytes(), words, received);
+        }
+    }
+
+    // That each variable stands somewhere, and a nonce that is not the session's own is first received.
+    pub fn check(&self) -> Result<(), Declined>
+        ensures { Reads (λ u. u) (check_usages (declared_of self.now).variables (declared_of self.now).usages) result }
+    {
+        for (variable, usage) in self.list.iter().zip(self.usages.iter()) {
+            usage.check(variable.sort)?;
+        }
+        Ok(())
+    }
+}
+
+impl Usage {
+    // How a variable of this name is used after one more line with these words.
+    fn after(self, name: &[u8], words: &[Word], received: bool) -> Usage
+        ensures { result ≡ noted self name.now (words_of words.now) received }
+    {
+        if self.first.is_some() {
+            return self;
+        }
+        Usage {
+            declared: self.declared,
+            first: place_of(words, name).map(|place| First { place, received }),
+        }
+    }
+
+    // That a variable of this sort may be so used.
+    fn check(self, sort: Sort) -> Result<(), Declined>
+        ensures { Reads (λ u. u) (check_first sort self.declared self.first) result }
+    {
+        let first = self.first.ok_or(Rule::Variable.at(self.declared))?;
+        if sort == Sort::Plain(Kind::Nonce) && !first.received {
+            return Err(Rule::Variable.at(first.place));
+        }
+        Ok(())
+    }
+}
+
 // The place of the first of these words that is this name.
 fn place_of(words: &[Word], name: &[u8]) -> Option<usize>
     ensures { result ≡ place_of (words_of words.now) name.now }
 {
-    for word in words {
-        if word.is(name) {
-            return Some(word.place);
-        }
-    }
-    None
-}
-
-// How a variable is used after one more line with these words.
-fn note(usage: Usage, name: &[u8], words: &[Word], received: bool) -> Usage
-    ensures { result ≡ noted usage name.now (words_of words.now) received }
-{
-    if usage.first.is_some() {
-        return usage;
-    }
-    let first = match place_of(words, name) {
-        Some(place) => Some(First { place, received }),
-        None => None,
-    };
-    Usage {
-        declared: usage.declared,
-        first,
-    }
-}
-
-// Notes where variables first stand in one more line.
-pub fn note_words(variables: &[Variable], usages: &mut Vec<Usage>, words: &[Word], received: bool)
-    ensures { usages.new.items ≡ note_all (map variable_of variables.now) usages.old.items (words_of words.now) received }
-{
-    for (i, variable) in variables.iter().enumerate() {
-        if i >= usages.len() {
-            return;
-        }
-        usages[i] = note(usages[i], variable.name.as_bytes(), words, received);
-    }
-}
-
-// Whether a variable of this sort is a nonce that is not the session's own.
-fn is_foreign_nonce(sort: Sort) -> bool
-    ensures { result ≡ foreign_nonce sort }
-{
-    matches!(sort, Sort::Plain(Kind::Nonce))
-}
-
-fn check_first(sort: Sort, usage: Usage) -> Result<(), Declined>
-    ensures { Reads (λ u. u) (check_first sort usage.declared usage.first) result }
-{
-    let Some(first) = usage.first else {
-        return decline(Rule::Variable, usage.declared);
-    };
-    if is_foreign_nonce(sort) && !first.received {
-        return decline(Rule::Variable, first.place);
-    }
-    Ok(())
-}
-
-// That each variable stands somewhere, and a nonce that is not the session's own is first received.
-pub fn check_usages(variables: &[Variable], usages: &[Usage]) -> Result<(), Declined>
-    ensures { Reads (λ u. u) (check_usages (map variable_of variables.now) usages.now) result }
-{
-    for (i, usage) in usages.iter().enumerate() {
-        if i >= variables.len() {
-            return Ok(());
-        }
-        check_first(variables[i].sort, *usage)?;
-    }
-    Ok(())
+    words
+        .iter()
+        .find(|word| word.is(name))
+        .map(|word| word.place)
 }

@@ -1,8 +1,11 @@
 // The values that a table of ranks gives.
 ghost use Rattle.std.specs.Prelude.{◌≡◌};
-ghost use Rattle.terms.specs.Terms.{magnitude, negative, positive, unpadded, value_of};
+ghost use Rattle.terms.specs.Terms.{digits, magnitude, negative, positive, unpadded, value_of};
 
-const LARGEST: u32 = 32_768;
+use std::str::from_utf8;
+
+// No value is farther from 0.
+const LARGEST: u16 = 32_768;
 
 // Whether there is one digit or more, and no 0 before another.
 fn is_unpadded(digits: &[u8]) -> bool
@@ -15,48 +18,37 @@ fn is_unpadded(digits: &[u8]) -> bool
     }
 }
 
+fn are_digits(bytes: &[u8]) -> bool
+    ensures { result ≡ digits bytes.now }
+{
+    bytes.iter().all(u8::is_ascii_digit)
+}
+
 // The number that decimal digits write, without leading zeros; none above the largest.
 fn read_magnitude(digits: &[u8]) -> Option<u16>
     ensures { result ≡ magnitude digits.now }
 {
-    if !is_unpadded(digits) {
+    // The parse of std would also take `+5` and `007`.
+    if !are_digits(digits) || !is_unpadded(digits) {
         return None;
     }
-    let mut number: u32 = 0;
-    for digit in digits {
-        if !digit.is_ascii_digit() {
-            return None;
-        }
-        number = number * 10 + (*digit - b'0') as u32;
-        if number > LARGEST {
-            return None;
-        }
-    }
-    Some(number as u16)
+    let number = from_utf8(digits).ok()?.parse().ok()?;
+    (number <= LARGEST).then_some(number)
 }
 
 // What digits write after `-`, where `-0` is nothing.
 fn read_negative(digits: &[u8]) -> Option<i16>
     ensures { result ≡ negative (magnitude digits.now) }
 {
-    let number = read_magnitude(digits)?;
-    if number == 0 {
-        None
-    } else {
-        Some((-(number as i32)) as i16)
-    }
+    let number = read_magnitude(digits).filter(|number| *number > 0)?;
+    i16::try_from(-i32::from(number)).ok()
 }
 
 // What digits write without `-`.
 fn read_positive(digits: &[u8]) -> Option<i16>
     ensures { result ≡ positive (magnitude digits.now) }
 {
-    let number = read_magnitude(digits)?;
-    if number <= 32_767 {
-        Some(number as i16)
-    } else {
-        None
-    }
+    i16::try_from(read_magnitude(digits)?).ok()
 }
 
 // The value that a text writes, from -32,768 to 32,767, without leading zeros and without `-0`.

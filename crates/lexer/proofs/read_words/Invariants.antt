@@ -1,9 +1,11 @@
-use Rattle.std.proofs.Common.{◌+◌, ◌-◌, length, vec_items}
-use Rattle.lexer.proofs.Pieces.{WordsSofar}
+use Rattle.std.proofs.Common.{◌≡◌, ◌++◌, vec_items}
+use Rattle.lexer.specs.Pieces.{pieces_left}
+use Rattle.lexer.specs.Text.{are_words, placed, split, words_of}
+use Rattle.lexer.proofs.Sofar.{texts}
 use Rattle.lexer.proofs.read_words.Given as goal
 
-abbrev pub invariant-loop-text : goal.invariant-loop-text
-invariant-loop-text l = WordsSofar l.place l.line (vec_items l.words) l.start
-
-abbrev pub decreases-loop-text : goal.decreases-loop-text
-decreases-loop-text l = length l.line + 1 - l.start
+abbrev pub invariant-loop-place : goal.invariant-loop-place
+invariant-loop-place l = record {
+  good : are_words (split 32 l.line.text.now) ≡ are_words (texts (pieces_left l.place-iterator));
+  words : words_of (vec_items l.words) ++ pieces_left l.place-iterator ≡ placed l.line.place (split 32 l.line.text.now);
+}

@@ -11,16 +11,16 @@ unfolding read_term
 loop-i-init c = search rules
 
 pub returns-then-is_full : goal.returns-then-is_full
-returns-then-is_full c = search (rules, term-full)
+returns-then-is_full c = rw c.fault.ensures (term-full c.loop-i.invariant _ c.loop-i-test.true c.if-is_full.ensures)
 
-pub returns-in_err-progress : goal.returns-in_err-progress
-returns-in_err-progress c =
+pub returns-in_err-read_word : goal.returns-in_err-read_word
+returns-in_err-read_word c =
     let p = err_from_is_err_and c.from_residual.result c.from_residual.ensures.1 in
     rw (p.1, p.2)
-    (term-break c.loop-i.invariant _ c.loop-i-test.true c.if-is_full.ensures progress_of (vec_items {Z = Global}) _ c.in_err-progress.ensures)
+    (term-break c.loop-i.invariant _ c.loop-i-test.true c.if-is_full.ensures progress_of (vec_items {Z = Global}) c.read_word.new.self _ c.in_err-read_word.ensures)
 
 pub loop-i-preserved : goal.loop-i-preserved
-loop-i-preserved c = term-more c.loop-i.invariant _ c.loop-i-test.true c.if-is_full.ensures _ c.in_ok-progress.ensures
+loop-i-preserved c = term-more c.loop-i.invariant _ c.loop-i-test.true c.if-is_full.ensures _ c.in_ok-read_word.ensures
 
 pub returns-then-not-is_complete : goal.returns-then-not-is_complete
 returns-then-not-is_complete c = search (rules, term-cut)

@@ -1,30 +1,18 @@
-use Rattle.std.proofs.Common.{sym, ◌∙◌}
-use Rattle.std.proofs.lemmas.List.{at_drop_all}
-use Rattle.terms.specs.Terms.{digits, number}
-use Rattle.terms.proofs.Magnitudes.{digits_step, not-digits, number_step, padded, some-magnitude, too_large}
+use Rattle.std.proofs.Common.{sym, ap, ◌∙◌}
+use Rattle.terms.proofs.Magnitudes.{capped, no-text, parsed, text-is}
 use Rattle.terms.proofs.value.read_magnitude.Goals as goal
 
-pub returns-then-not-is_unpadded : goal.returns-then-not-is_unpadded
-returns-then-not-is_unpadded c = padded c.args.digits.now (sym c.if-not-is_unpadded.ensures)
+pub returns-in_err-ok : goal.returns-in_err-ok
+returns-in_err-ok c = absurd (no-text c.args.digits.now c.if-not-are_digits.ensures _ c.from_utf8.result c.from_utf8.ensures.cases (sym c.ok.ensures.value ∙ c.in_err-ok.was))
 
-pub returns-then-not-is_ascii_digit : goal.returns-then-not-is_ascii_digit
-returns-then-not-is_ascii_digit c =
-    not-digits c.args.digits.now (c.loop-digit.invariant.0 ∙ digits_step _ _ _ c.loop-digit-test.true c.if-not-is_ascii_digit.ensures.value)
-
-pub returns-then-number-gt-LARGEST : goal.returns-then-number-gt-LARGEST
-returns-then-number-gt-LARGEST c = too_large c.args.digits.now _ _ c.loop-digit.invariant.1 c.loop-digit-test.true c.if-number-gt-LARGEST.true
-
-pub loop-digit-preserved : goal.loop-digit-preserved
-loop-digit-preserved c = (
-  c.loop-digit.invariant.0 ∙ digits_step _ _ _ c.loop-digit-test.true c.if-not-is_ascii_digit.ensures.value,
-  c.loop-digit.invariant.1 ∙ number_step _ _ _ c.loop-digit-test.true,
-  c.if-number-gt-LARGEST.false,
-)
+pub returns-in_err-number : goal.returns-in_err-number
+returns-in_err-number c =
+    c.from_residual-in_err-number.ensures
+    ∙ ap capped (sym c.in_err-number.was ∙ c.ok-2.ensures.value)
+    ∙ parsed c.args.digits.now c.if-not-are_digits.ensures c.if-not-is_unpadded.ensures c.in_ok-ok.field-0.now c.parse.result c.parse.ensures.value.0 (text-is c.args.digits.now c.if-not-are_digits.ensures _ c.from_utf8.result c.from_utf8.ensures.cases c.in_ok-ok.field-0 c.in_ok-ok.ensures.value)
 
 pub returns : goal.returns
 returns c =
-    some-magnitude c.args.digits.now _
-    (c.loop-digit.invariant.0 ∙ at_drop_all digits _ _ c.loop-digit-test.false)
-    (sym c.if-not-is_unpadded.ensures)
-    (c.loop-digit.invariant.1 ∙ at_drop_all (number _) _ _ c.loop-digit-test.false)
-    c.loop-digit.invariant.2
+    c.then_some.ensures
+    ∙ ap capped (sym c.in_ok-number.was ∙ c.ok-2.ensures.value)
+    ∙ parsed c.args.digits.now c.if-not-are_digits.ensures c.if-not-is_unpadded.ensures c.in_ok-ok.field-0.now c.parse.result c.parse.ensures.value.0 (text-is c.args.digits.now c.if-not-are_digits.ensures _ c.from_utf8.result c.from_utf8.ensures.cases c.in_ok-ok.field-0 c.in_ok-ok.ensures.value)

@@ -1,7 +1,0 @@
-use Rattle.std.proofs.Common.{rules}
-use Rattle.sheet.specs.Kept.{cast_of}
-use Rattle.sheet.proofs.cast.Cast.scope.Goals as goal
-
-pub returns : goal.returns
-unfolding cast_of
-returns c = search rules

@@ -1,7 +1,0 @@
-use Rattle.std.proofs.Common.{rules}
-use Rattle.sheet.specs.Kept.{script_of}
-use Rattle.sheet.proofs.script.Script.into_role.Goals as goal
-
-pub returns : goal.returns
-unfolding script_of
-returns c = search rules

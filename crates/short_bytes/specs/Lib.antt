@@ -1,0 +1,3 @@
+pub mod Pads
+pub mod Kept
+pub mod Appending
