@@ -30,12 +30,7 @@ impl<T: Drop> From<AllocFailed<T>> for HexError {
 fn digit(code: u8) -> Option<u8>
     ensures { MatchOption result (NoDigit code) (λ v. Digit code v) }
 {
-    match code {
-        b'0'..=b'9' => Some(code - b'0'),
-        b'A'..=b'F' => Some(code - b'A' + 10),
-        b'a'..=b'f' => Some(code - b'a' + 10),
-        _ => None,
-    }
+    u8::try_from(char::from(code).to_digit(16)?).ok()
 }
 
 // The byte that two digits stand for.

@@ -1,7 +1,7 @@
 // The pieces of a text between separators, each with its place.
 ghost use Rattle.std.specs.Prelude.{◌≡◌, ◌+◌, ◌^◌, ◌<◌, length};
 
-// A part of a text, and the number of its first byte there.
+// A part of a text, and the number of its first byte there. It is no `Word`, whose fields anyone may set: the place and the length of a piece fit.
 #[derive(Clone, Copy)]
 pub struct Piece<'a> {
     pub place: usize,

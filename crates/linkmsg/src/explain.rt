@@ -18,7 +18,7 @@ pub enum Unanswered {
     NoMemory,
 }
 
-// By hand and not by thiserror, which does not say which error it makes.
+// These two are by hand and not by thiserror, which does not say which error it makes.
 impl From<HexError> for Unanswered {
     ghost from_gives = { λ error why. why ≡ unread error };
 

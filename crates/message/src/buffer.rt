@@ -1,6 +1,6 @@
 // The buffer in which a message is built, and its constructors. They are called in prefix order, as the words of a message
 // are read: a pair before its halves, a seal before its content.
-ghost use Rattle.std.specs.Prelude.{◌≡◌, ◌<◌, min, max, [], ◌∷◌, MatchResult};
+ghost use Rattle.std.specs.Prelude.{◌≡◌, ◌<◌, ◌≤◌, length, min, max, [], ◌∷◌, MatchResult};
 ghost use Rattle.message.specs.Building.{Adds};
 ghost use Rattle.message.specs.Message.{atom, key, key_bytes, key_of, size, wire};
 
@@ -44,7 +44,8 @@ impl Message {
 
     // What is written so far.
     pub fn as_bytes(&self) -> &[u8]
-        ensures { result.now ≡ self.now }
+        ensures bytes { result.now ≡ self.now }
+        ensures few { length result.now ≤ 96 }
     {
         self.bytes.as_bytes()
     }

@@ -18,7 +18,6 @@ pub enum WordsError {
     NoMemory,
 }
 
-// By hand and not by thiserror, which does not say which error it makes.
 // These three are by hand, since what a derive writes has no `from_gives`, which says what `?` makes.
 impl From<NotMessage> for WordsError {
     ghost from_gives = { λ _ r. r ≡ NoMessage };

@@ -1,5 +1,5 @@
 -- What the code's draft of a sheet stands for.
-use Rattle.std.specs.Prelude.{◌≡◌, Bool, true, false, Ok, Err, vec_items, Option, Result}
+use Rattle.std.specs.Prelude.{◌≡◌, Bool, true, false, Ok, Err, vec_items, Result}
 use Rattle.lexer.specs.declared.Declined.{Declined}
 use Rattle.lexer.specs.declared.Declined.TheVariants as declined
 use Rattle.lexer.specs.declared.Rule.TheVariants as rule

@@ -72,7 +72,7 @@ kind_of w =
     (cond (bytes_eq w (codes "nonce")) (Some kind.Nonce)
     (cond (bytes_eq w (codes "text")) (Some kind.Text) None))
 
--- `var NAME KIND` or `free NAME KIND`, where so many are declared already and the name is new
+-- `var NAME KIND` or `free NAME KIND`, where so many are declared already, and whether the name is new
 abbrev pub plain_line : ℕ → Bool → LineAt → Result model.Variable Fault
 plain_line declared new l =
     unless (length l.words == 3) rule.Line l.place

@@ -119,7 +119,7 @@ in_roles d l =
     (cond (is_only l (codes "nonces")) (too_few l)
     (misplaced l))
 
--- a step, with the words of its line in which variables may stand, and whether it receives
+-- the draft after a step
 abbrev pub stepped : Draft → model.Step → List WordAt → Bool → Draft
 stepped d x ws received = script_at d part.Steps d.cast (more_step d.script x ws received)
 

@@ -30,7 +30,7 @@ pub struct Title {
     pub player: Option<usize>,
 }
 
-// Agents, texts, roles and nonces, in sheet order.
+// Agents, texts, roles and nonces, in sheet order. It has no model: the draft's calls write its fields, so contracts see it by a function of them.
 #[derive(Drop)]
 pub struct Cast {
     pub agents: Vec<Agent>,
@@ -233,7 +233,7 @@ impl Cast {
         })
     }
 
-    // Whether a role with this player may be played by the agent.
+    // Whether a role with this player may be played by the agent. A match, since the two cases have nothing in common for a chain to say.
     fn is_played_by(&self, player: Option<usize>, agent: usize) -> bool
         ensures { result ≡ played_by (cast_of self.now) agent player }
     {

@@ -46,7 +46,7 @@ pub enum Part {
     End,
 }
 
-// What is read so far, which lines may come next, and the lines of the section words.
+// What is read so far, which lines may come next, and the lines of the section words. It has no model, since its parts have none.
 #[derive(Drop)]
 pub struct Draft {
     pub heap: Global,
@@ -92,7 +92,7 @@ fn has_claim_shape(line: &Line, needs: Option<usize>) -> bool
     }
 }
 
-// The claim of a line in which so many atoms stand before `needs`.
+// The claim of a line in which so many atoms stand before `needs`. It is lent the heap and the cast as `Script::read_term` is.
 fn read_claim_at(heap: Global, cast: &Cast, line: &Line, atoms: usize) -> Result<Claim, Declined>
     requires { atoms < 64 }
     ensures { Reads claim_of (claim_at (cast_of cast.now) (line_of line.now) atoms) result }
@@ -124,6 +124,7 @@ impl Draft {
     }
 
     // One line more, of this number counted from 1. What may come next is a state, so an enum with a call for each part says it plainest.
+    // The number stands beside the line and not in it, since a line has its place, and only section words are found by number.
     pub fn read_line(&mut self, number: usize, line: &Line) -> Result<(), Declined>
         ensures { Becomes draft_of (in_part self.old.part (draft_of self.old) number (line_of line.now)) self.new result }
     {
@@ -381,7 +382,7 @@ impl Draft {
         self.open(Part::Free, b"ranks", number, line)
     }
 
-    // A section of the ranks may have no lines, so each of these calls passes what it does not read to the next. Only their frame is one: each keeps lines of another type.
+    // A section of the ranks may have no lines, so each of these calls passes what it does not read to the next. Only their frame is one, as in the sections above: each keeps lines of another type, so one call for all would take three closures.
     #[tactic(auto, unfolding(crate::specs::Kept::table_of), using(std::proofs::lemmas::List::map_push))]
     fn in_free(&mut self, line: &Line) -> Result<(), Declined>
         ensures { Becomes draft_of (in_free (draft_of self.old) (line_of line.now)) self.new result }
@@ -478,6 +479,7 @@ fn says(heap: Global, line: &Line, i: usize, number: usize) -> Result<bool, Decl
 fn says_all(heap: Global, line: &Line, numbers: &[usize]) -> Result<bool, Declined>
     ensures { Reads (λ b. b) (Ok (says_all (line_of line.now) 1 numbers.now)) result }
 {
+    // By index and not by pairs, since a word that is missing says no number.
     for (i, number) in numbers.iter().enumerate() {
         let said = says(heap, line, i + 1, *number)?;
         if !said {

@@ -20,11 +20,12 @@ use terms::{
     Name, Node, Role, Scope, Sort, Step, Variable, Variables, find, read_signal, read_term,
 };
 
+// Of a role, and of the ranks.
 const MOST_VARIABLES: usize = 5;
 
 const MOST_STEPS: usize = 8;
 
-// A role's title, its variables and its steps.
+// A role's title, its variables and its steps. It has no model: the draft's calls write its fields, so contracts see it by a function of them.
 #[derive(Drop)]
 pub struct Script {
     pub title: Title,
@@ -32,7 +33,7 @@ pub struct Script {
     pub steps: Vec<Step>,
 }
 
-// `var NAME KIND` or `free NAME KIND`, where so many are declared already and something else may have the name.
+// `var NAME KIND` or `free NAME KIND`, where so many are declared already, and whether something else has the name.
 pub fn read_plain(line: &Line, declared: usize, taken: bool) -> Result<Variable, Declined>
     ensures { Reads variable_of (plain_line declared (is_name (word_at (line_of line.now) 1).text && not taken) (line_of line.now)) result }
 {
@@ -64,7 +65,7 @@ impl Script {
         }
     }
 
-    // No role is being read.
+    // No role is being read. It is no `Option`, since what a sheet is read to is defined by a script without a title.
     pub fn empty(heap: Global) -> Script
         ensures { script_of result ≡ new_script no_title }
     {
@@ -85,9 +86,8 @@ impl Script {
         Scope {
             script: true,
             variables: self.variables.as_slice(),
-            agents: cast.agents.as_slice(),
-            texts: cast.texts.as_slice(),
             nonces: &[],
+            ..cast.scope()
         }
     }
 
@@ -145,7 +145,7 @@ impl Script {
         read_term(heap, &self.scope(cast), line.place, line.from(1))
     }
 
-    // `sig WORD ATOMS`
+    // `sig WORD ATOMS`. It is lent the heap and the cast as `read_term` is.
     #[tactic(auto, unfolding(crate::specs::Kept::script_of))]
     pub fn read_signal<'a>(
         &'a self,
@@ -169,7 +169,7 @@ impl Script {
     pub fn add_step(&mut self, step: Step, words: &[Word]) -> Result<(), Declined>
         ensures { Becomes script_of (Ok (more_step (script_of self.old) (step_of step) (words_of words.now) (receives (step_of step)))) self.new result }
     {
-        self.variables.note(words, matches!(step, Step::Receive(_)));
+        self.variables.note(words, step.receives());
         self.steps.push(step)?;
         Ok(())
     }

@@ -26,7 +26,8 @@ const MOST_SEALS: usize = 12;
 
 const MOST_MARKS: usize = 6;
 
-// The free variables, and the ranks of atoms, seals and events.
+// The free variables, and the ranks of atoms, seals and events. It has no model: the draft's calls write its fields, so contracts see it by a
+// function of them.
 #[derive(Drop)]
 pub struct Table {
     pub free: Variables,
@@ -96,11 +97,8 @@ impl Table {
         ensures { scope_of result ≡ free_scope (cast_of cast.now) (table_of self.now) }
     {
         Scope {
-            script: false,
             variables: self.free.as_slice(),
-            agents: cast.agents.as_slice(),
-            texts: cast.texts.as_slice(),
-            nonces: cast.nonces.as_slice(),
+            ..cast.scope()
         }
     }
 
@@ -121,7 +119,7 @@ impl Table {
         read_plain(line, self.free.len(), taken)
     }
 
-    // Whether there is room for one more of each. They are calls of their own, since the readings below get no proof where the table is unfolded.
+    // Whether there is room for one more of each. They are calls of their own: inline, and with one lemma, the readings below got no proof where the table is unfolded.
     #[tactic(auto, unfolding(crate::specs::Kept::table_of))]
     fn has_atom_room(&self) -> bool
         ensures { result ≡ nat_lt (length (table_of self.now).atoms) 12 }
@@ -168,7 +166,7 @@ impl Table {
         self.atoms.iter().any(|ranked| same_atom(ranked.what, atom))
     }
 
-    // `seal V AGENT AGENT TERM`
+    // `seal V AGENT AGENT TERM`. It is lent the heap and the cast as `Script::read_term` is.
     pub fn read_seal<'a>(
         &'a self,
         heap: Global,
@@ -197,7 +195,7 @@ impl Table {
         Ok(Ranked { rank, what })
     }
 
-    // `mark V WORD ATOMS`
+    // `mark V WORD ATOMS`. It is lent both too.
     pub fn read_mark(
         &self,
         heap: Global,

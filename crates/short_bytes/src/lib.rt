@@ -1,7 +1,8 @@
 // A few bytes kept in place, at most as many as the type says: made without memory that could be wanting, and copied like a number.
+// So they are no `Vec`, and not the kit's `ArrayVec`, which is not copied.
 #![tactic(auto)]
 
-ghost use Rattle.std.specs.Prelude.{◌≡◌, [], take};
+ghost use Rattle.std.specs.Prelude.{◌≡◌, ◌≤◌, [], length, take};
 ghost use Rattle.short_bytes.specs.Appending.{Appends};
 
 use std::marker::Model;
@@ -61,8 +62,10 @@ impl<const MOST: usize> ShortBytes<MOST> {
 
     // What it holds.
     pub fn as_bytes(&self) -> &[u8]
-        ensures { result.now ≡ self.now }
+        ensures bytes { result.now ≡ self.now }
+        ensures few { length result.now ≤ MOST }
     {
+        // Parts of arrays of any length are lent as parts of a slice of the whole.
         let whole = &self.bytes[..];
         &whole[0..self.len]
     }

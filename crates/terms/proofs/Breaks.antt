@@ -6,12 +6,7 @@ use Rattle.lexer.specs.declared.Fault.{Fault}
 use Rattle.terms.specs.Outcomes.{Becomes, Reads}
 use Rattle.terms.specs.Terms.{and_then}
 
--- a fault of what comes first is the fault of the whole
-pub reads-break : {X Y M N : Type 0} (of : X → M) (to : Y → N) (s : Result M Fault) (k : M → Result N Fault) (t : Result N Fault) (e : Declined) → t ≡ and_then s k → Reads of s (Err e) → Reads to t (Err e)
-reads-break of to s k t (declined.Fault f) h told = h ∙ ap (λ r. and_then r k) told
-reads-break of to s k t declined.Memory h told = tt
-
--- the same where what comes first changes something
+-- a fault of what comes first is the fault of the whole, where what comes first changes something
 pub becomes-break : {X Y M N : Type 0} (of : X → M) (to : Y → N) (after : X) (s : Result M Fault) (k : M → Result N Fault) (t : Result N Fault) (e : Declined) → t ≡ and_then s k → Becomes of s after (Err e) → Reads to t (Err e)
 becomes-break of to after s k t (declined.Fault f) h told = h ∙ ap (λ r. and_then r k) told
 becomes-break of to after s k t declined.Memory h told = tt

@@ -1,10 +1,7 @@
 -- Finding by name, one at a time.
-use Rattle.std.proofs.Common.{◌≡◌, ℕ, ◌+◌, ◌<◌, ◌≤◌, Bool, true, false, cond, List, [], ◌∷◌, map, length, get_or, Some, None, Option, refl, ap, ◌∙◌, arith}
-use lib.ListN.{length-map}
-use Rattle.std.proofs.lemmas.Option.{slice_get-get_or, slice_get_past}
-use Rattle.std.specs.List.{position, position_from, slice_get}
+use Rattle.std.proofs.Common.{◌≡◌, ℕ, ◌+◌, Bool, true, false, cond, List, [], ◌∷◌, map, Some, None, Option, refl, ap, ◌∙◌, arith}
+use Rattle.std.specs.List.{position, position_from}
 use Rattle.std.proofs.lemmas.Iterator.Adapters.{position_from-zero}
-use Rattle.std.proofs.lemmas.List.{get_or-map}
 use Rattle.std.specs.Option.{option_map}
 use Rattle.std.specs.Str.{bytes_eq}
 use Rattle.terms.specs.Names.{index_of}
@@ -26,10 +23,3 @@ module _ {X M : Type 0} (of : X → M) (name : M → List ℕ) (w : List ℕ) wh
       from-zero : (o : Option ℕ) → option_map (λ k. k + 0) o ≡ o
       from-zero None = refl
       from-zero (Some k) = ap Some (omega arith)
-
--- what stands at an index, and what it stands for
-pub nth-model : {X M : Type 0} (of : X → M) (xs : List X) (i : ℕ) (d : X) → i < length xs → slice_get (map of xs) i ≡ Some (of (get_or xs i d))
-nth-model of xs i d h = slice_get-get_or (map of xs) i (of d) (omega (arith, length-map xs of)) ∙ ap Some (get_or-map of xs i d (of d) h)
-
-pub nth-none : {X M : Type 0} (of : X → M) (xs : List X) (i : ℕ) → length xs ≤ i → slice_get (map of xs) i ≡ None
-nth-none of xs i h = slice_get_past (map of xs) i (omega (arith, length-map xs of))

@@ -1,5 +1,5 @@
 -- Words that are names are kept whole.
-use Rattle.std.proofs.Common.{◌≡◌, ℕ, Bool, true, not, ◌&&◌, leb, List, length, take, sym}
+use Rattle.std.proofs.Common.{◌≡◌, ℕ, true, not, ◌&&◌, leb, List, length, take, sym}
 use Rattle.std.proofs.lemmas.List.{take_all}
 use Rattle.std.proofs.lemmas.Bool.{and_parts, leb-true}
 use Rattle.terms.specs.Names.{alphanumeric, among, begins_with_letter, is_name, reserved, spelled}
@@ -9,7 +9,3 @@ pub name-short : (w : List ℕ) → true ≡ is_name w → take 8 w ≡ w
 name-short w h =
     let form = (and_parts (spelled w) (not (among reserved w)) (sym h)).0 in
     take_all 8 w (leb-true (length w) 8 (and_parts (alphanumeric w && begins_with_letter w) (leb (length w) 8) form).1)
-
--- the same of a word that passes a further test
-pub name-whole : (w : List ℕ) (also : Bool) → (is_name w && also) ≡ true → take 8 w ≡ w
-name-whole w also e = name-short w (sym (and_parts (is_name w) also e).0)

@@ -1,7 +1,7 @@
 -- Where variables first stand, one word and one variable at a time.
 use Rattle.std.proofs.Common.{◌≡◌, ℕ, ◌+◌, ◌<◌, ◌≤◌, Bool, true, false, cond, List, [], ◌∷◌, ◌++◌, map, length, min, get_or, take, drop, set, inl, inr, Some, Ok, Option, Result, sym, refl, ap, ◌∙◌, arith}
 use Rattle.std.proofs.lemmas.Bool.{cases_lt}
-use Rattle.std.proofs.lemmas.List.{append_assoc, append-nil, drop_all, drop_more, drop-set-lt, take_all, take-append-drop, take_more_set}
+use Rattle.std.proofs.lemmas.List.{append_assoc, drop_all, drop_more, drop-set-lt, take_more_set}
 use Rattle.std.specs.List.{find}
 use Rattle.std.specs.Option.{option_map}
 use Rattle.std.specs.Str.{bytes_eq}
@@ -10,11 +10,10 @@ use Rattle.lexer.specs.declared.Word.{Word}
 use Rattle.lexer.specs.Text.{WordAt, words_of}
 use Rattle.terms.specs.declared.usages.Usage.{Usage}
 use Rattle.terms.specs.declared.stored.Variable.{Variable}
-use Rattle.terms.specs.Usages.{check_first, check_usages, note_all, noted, place_of}
+use Rattle.terms.specs.Usages.{check_usages, note_all, noted, place_of}
 use Rattle.terms.specs.Names.{letters}
 use Rattle.terms.specs.Sheet as model
 use Rattle.terms.specs.Stored.{variable_of}
-use Rattle.terms.specs.Terms.{and_then}
 
 place-cond : (b : Bool) (w : Word) (o : Option Word) → option_map (λ x. x.place) (cond b (Some w) o) ≡ cond b (Some w.place) (option_map (λ x. x.place) o)
 place-cond true w o = refl
@@ -43,17 +42,6 @@ module _ (vs : List Variable) (ws : List WordAt) (received : Bool) where
   none-noted [] = refl
   none-noted (m ∷ ms) = refl
 
-  -- all are noted where the usages end, or the variables
-  pub noted-all : (i : ℕ) (us : List Usage) → length us ≤ i → note_from i us ≡ us
-  noted-all i us h =
-      ap (λ l. take i us ++ note_all (map variable_of (drop i vs)) l ws received) (drop_all i us h)
-      ∙ ap (λ l. take i us ++ l) (none-noted (map variable_of (drop i vs)))
-      ∙ append-nil (take i us)
-      ∙ take_all i us h
-
-  pub noted-variables : (i : ℕ) (us : List Usage) → length vs ≤ i → note_from i us ≡ us
-  noted-variables i us h = ap (λ l. take i us ++ note_all l (drop i us) ws received) (no-variable vs i h) ∙ take-append-drop i us
-
   -- the usage at i is noted
   pub noted_more : (i : ℕ) (us : List Usage) (d : Variable) (e new : Usage) → i < length vs → i < length us → new ≡ noted (get_or us i e) (letters (get_or vs i d).name) ws received → note_from i us ≡ note_from (i + 1) (set us i new)
   noted_more i us d e new hv hu is =
@@ -81,10 +69,6 @@ module _ (vs : List Variable) (us : List Usage) where
 
   pub checked-variables : (i : ℕ) → length vs ≤ i → check_from i ≡ Ok tt
   checked-variables i h = ap (λ l. check_usages l (drop i us)) (no-variable vs i h)
-
-  -- the usage at i is checked, then those after it
-  pub checked-more : (i : ℕ) (d : Variable) (e : Usage) → i < length vs → i < length us → check_from i ≡ and_then (check_first (get_or vs i d).sort (get_or us i e).declared (get_or us i e).first) (λ _. check_from (i + 1))
-  checked-more i d e hv hu = ap (λ l. check_usages l (drop i us)) (one-variable vs i d hv) ∙ ap (check_usages (variable_of (get_or vs i d) ∷ map variable_of (drop (i + 1) vs))) (drop_more us i e hu)
 
   -- both at once, where a loop over the two together ends
   pub checked-end : (i : ℕ) → i ≡ min (length vs) (length us) → check_from i ≡ Ok tt

@@ -1,5 +1,5 @@
 // Names, and which words are names.
-ghost use Rattle.std.specs.Prelude.{◌≡◌, take};
+ghost use Rattle.std.specs.Prelude.{◌≡◌, ◌≤◌, length, take};
 ghost use Rattle.terms.specs.Names.{alphanumeric, begins_with_letter, is_name, letters, spelled};
 ghost use Rattle.std.specs.List.{list_any};
 ghost use Rattle.std.specs.Str.{bytes_eq};
@@ -14,7 +14,7 @@ const RESERVED: [&[u8]; 28] = [
     b"needs", b"free", b"rank", b"seal", b"mark", b"self", b"pair", b"key", b"back",
 ];
 
-// The name of something on a sheet: at most eight letters or digits.
+// The name of something on a sheet: at most eight letters or digits. Its field has the model, so it needs none.
 #[derive(Clone, Copy, Debug, PartialEq, Eq)]
 pub struct Name {
     letters: ShortBytes<8>,
@@ -32,7 +32,8 @@ impl Name {
 
     // Its letters.
     pub fn as_bytes(&self) -> &[u8]
-        ensures { result.now ≡ letters self.now }
+        ensures letters { result.now ≡ letters self.now }
+        ensures few { length result.now ≤ 8 }
     {
         self.letters.as_bytes()
     }
@@ -45,6 +46,7 @@ impl Name {
     }
 }
 
+// It promises no text: that the letters are ASCII holds of the names that a sheet has, and not of each.
 impl fmt::Display for Name {
     fn fmt<W: fmt::Write>(&self, f: &mut fmt::Formatter<W>) -> fmt::Result {
         for letter in self.as_bytes() {

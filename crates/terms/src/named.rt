@@ -23,6 +23,7 @@ pub trait Named {
         ensures { result ≡ bytes_eq (name (meaning self.now)) word.now };
 }
 
+// An impl for each type, since an impl may be written by no macro of the repository.
 impl Named for Name {
     ghost Meaning = { List ℕ };
 

@@ -53,19 +53,16 @@ impl Progress {
         requires { self.old.wanted < 64 }
         ensures { Becomes progress_of (term_word (scope_of scope.now) self.old.wanted self.old.done.items (word_of word.entry)) self.new result }
     {
-        if word.is(b"pair") {
-            return self.add_node(Node::Pair, self.wanted + 1);
+        match word.text {
+            b"pair" => return self.add_node(Node::Pair, self.wanted + 1),
+            b"key" => self.expect = Expect::First(Opening::Key),
+            b"seal" => self.expect = Expect::First(Opening::Seal),
+            _ => {
+                let field = scope.field(word.text).ok_or(word.fault(Rule::Word))?;
+                return self.add_node(Node::Leaf(field), self.wanted.saturating_sub(1));
+            }
         }
-        if word.is(b"key") {
-            self.expect = Expect::First(Opening::Key);
-            return Ok(());
-        }
-        if word.is(b"seal") {
-            self.expect = Expect::First(Opening::Seal);
-            return Ok(());
-        }
-        let field = scope.field(word.text).ok_or(word.fault(Rule::Word))?;
-        self.add_node(Node::Leaf(field), self.wanted.saturating_sub(1))
+        Ok(())
     }
 
     // The second agent of a key or seal.

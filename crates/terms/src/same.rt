@@ -10,7 +10,7 @@ use super::term::Node;
 pub fn same_signal(a: &Signal, b: &Signal) -> bool
     ensures { result ≡ same_signal (signal_of a.now) (signal_of b.now) }
 {
-    // By the letters, since the derived equality of names compares their padding too.
+    // By the letters: with `==` of names the proof did not close, since it does not see that their padding is zeros.
     a.word.is(b.word.as_bytes()) && a.fields == b.fields
 }
 

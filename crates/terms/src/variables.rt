@@ -39,10 +39,13 @@ fn stands_in_step(step: &Step, variable: usize) -> bool
     }
 }
 
-fn receives(step: &Step) -> bool
-    ensures { result ≡ receives (step_of step.now) }
-{
-    matches!(step, Step::Receive(_))
+impl Step {
+    // Whether it receives a term.
+    pub fn receives(&self) -> bool
+        ensures { result ≡ receives (step_of self.now) }
+    {
+        matches!(self, Step::Receive(_))
+    }
 }
 
 impl Role {
@@ -53,6 +56,6 @@ impl Role {
         self.steps
             .iter()
             .find(|step| stands_in_step(step, variable))
-            .is_some_and(receives)
+            .is_some_and(Step::receives)
     }
 }
