@@ -1,8 +1,8 @@
 -- The words of a message from those of its parts.
-use Rattle.std.proofs.Common.{◌≡◌, ℕ, ◌<◌, List, ◌++◌, length, get_or, Ok, codes, decimal, sym, ap, ◌∙◌, subst, append_assoc, arith, length-append, Bor}
+use Rattle.std.proofs.Common.{◌≡◌, ℕ, List, ◌++◌, get_or, Ok, codes, decimal, sym, ap, ◌∙◌, subst, append_assoc, Bor}
 use Rattle.message.specs.declared.read.Parts.{Parts}
 use Rattle.message.specs.declared.read.Parts.TheVariants.{Pair, Seal}
-use Rattle.message.specs.Message.{Key, shared, Msg, pair, seal, key_bytes, wire, Reads}
+use Rattle.message.specs.Message.{Key, shared, Msg, pair, seal, key_bytes, Reads}
 use Rattle.message.specs.Reading.{Splits}
 use Rattle.message.specs.Words.{owners, words}
 use Rattle.message.proofs.Apart.{Halves, Opens}
@@ -27,16 +27,6 @@ pub opened : (bytes : List ℕ) (p : Parts) (k content : Bor (List ℕ)) → Spl
 opened bytes p k content h e = subst (λ x. Splits bytes (Ok x)) e h
 
 module _ (bytes first second : List ℕ) (h : Halves bytes first second) where
-  pub first-shorter : length first < length bytes
-  first-shorter =
-      let (m, w, (l, r, is, f, g)) = h in
-      omega (arith, simp length-append at (ap length (sym w.form ∙ ap wire is)), ap length f)
-
-  pub second-shorter : length second < length bytes
-  second-shorter =
-      let (m, w, (l, r, is, f, g)) = h in
-      omega (arith, simp length-append at (ap length (sym w.form ∙ ap wire is)), ap length g)
-
   pub pair-told : (t0 t1 t2 t3 t4 : List ℕ) → t1 ≡ t0 ++ codes "pair " → Told first t1 t2 → t3 ≡ t2 ++ codes " " → Told second t3 t4 → Told bytes t0 t4
   pair-told t0 t1 t2 t3 t4 e1 (l', wl, e2) e3 (r', wr, e4) =
       let (m, w, (l, r, is, f, g)) = h in

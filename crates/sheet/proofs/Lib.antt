@@ -1,3 +1,2 @@
 pub mod Casts
 pub mod Ranking
-pub mod Lining

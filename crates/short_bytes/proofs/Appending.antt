@@ -1,16 +1,10 @@
 -- A piece put behind the bytes, over the zeros.
-use Rattle.std.proofs.Common.{◌≡◌, ℕ, ◌+◌, ◌-◌, ◌≤◌, List, ◌++◌, length, take, drop, replicate, refl, sym, ap, ◌∙◌, arith, length-drop}
+use Rattle.std.proofs.Common.{◌≡◌, ℕ, ◌+◌, ◌-◌, ◌≤◌, List, length, take, drop, replicate, sym, ap, ◌∙◌, arith, length-drop}
 use Rattle.std.proofs.lemmas.List.{drop-drop, drop-replicate, length-take-le}
-use Rattle.std.proofs.lemmas.Slice.{take-put_mid, drop-put_mid}
+use Rattle.std.proofs.lemmas.Slice.{drop-put_mid}
 use borrow.Rule.Slice.PartMut.{put_mid, same_len_mid}
 
 module _ (most n : ℕ) (bytes piece : List ℕ) (few : n ≤ most) (long : length bytes ≡ most) (zeros : drop n bytes ≡ replicate (most - n) 0) (fits : length piece ≤ most - n) where
-  pub bytes_are : take (n + length piece) (put_mid n (n + length piece - n) bytes piece) ≡ take n bytes ++ piece
-  bytes_are = take-put_mid n (n + length piece - n) bytes piece (n + length piece) refl (omega (arith, few, long))
-
-  pub room_is : length (take n bytes) + length piece ≤ most
-  room_is = omega (arith, few, long, fits, length-take-le n bytes (omega (arith, few, long)))
-
   pub zeros_are : drop (n + length piece) (put_mid n (n + length piece - n) bytes piece) ≡ replicate (most - (n + length piece)) 0
   zeros_are =
       drop-put_mid n (n + length piece - n) bytes piece (n + length piece) (omega arith) (omega (arith, few, long)) (omega arith)

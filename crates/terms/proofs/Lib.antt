@@ -1,6 +1,5 @@
 pub mod Naming
 pub mod Finding
-pub mod Breaks
 pub mod TermWords
 pub mod Standing
 pub mod Magnitudes

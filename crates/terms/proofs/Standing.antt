@@ -1,7 +1,7 @@
 -- Where variables first stand, one word and one variable at a time.
-use Rattle.std.proofs.Common.{◌≡◌, ℕ, ◌+◌, ◌<◌, ◌≤◌, Bool, true, false, cond, List, [], ◌∷◌, ◌++◌, map, length, min, get_or, take, drop, set, inl, inr, Some, Ok, Option, Result, sym, refl, ap, ◌∙◌, arith}
+use Rattle.std.proofs.Common.{◌≡◌, ℕ, ◌≤◌, Bool, true, false, cond, List, [], ◌∷◌, ◌++◌, map, length, min, take, drop, inl, inr, Some, Ok, Option, Result, refl, ap, ◌∙◌, arith}
 use Rattle.std.proofs.lemmas.Bool.{cases_lt}
-use Rattle.std.proofs.lemmas.List.{append_assoc, drop_all, drop_more, drop-set-lt, take_more_set}
+use Rattle.std.proofs.lemmas.List.{drop_all}
 use Rattle.std.specs.List.{find}
 use Rattle.std.specs.Option.{option_map}
 use Rattle.std.specs.Str.{bytes_eq}
@@ -10,8 +10,7 @@ use Rattle.lexer.specs.declared.Word.{Word}
 use Rattle.lexer.specs.Text.{WordAt, words_of}
 use Rattle.terms.specs.declared.usages.Usage.{Usage}
 use Rattle.terms.specs.declared.stored.Variable.{Variable}
-use Rattle.terms.specs.Usages.{check_usages, note_all, noted, place_of}
-use Rattle.terms.specs.Names.{letters}
+use Rattle.terms.specs.Usages.{check_usages, note_all, place_of}
 use Rattle.terms.specs.Sheet as model
 use Rattle.terms.specs.Stored.{variable_of}
 
@@ -29,29 +28,10 @@ module _ (vs : List Variable) (i : ℕ) where
   no-variable : length vs ≤ i → map variable_of (drop i vs) ≡ []
   no-variable h = ap (map variable_of) (drop_all i vs h)
 
-  one-variable : (d : Variable) → i < length vs → map variable_of (drop i vs) ≡ variable_of (get_or vs i d) ∷ map variable_of (drop (i + 1) vs)
-  one-variable d h = ap (map variable_of) (drop_more vs i d h)
-
 module _ (vs : List Variable) (ws : List WordAt) (received : Bool) where
   -- the usages of which those from i on are yet to be noted
   abbrev pub note_from : ℕ → List Usage → List Usage
   note_from i us = take i us ++ note_all (map variable_of (drop i vs)) (drop i us) ws received
-
-  -- with no usage there is nothing to note
-  none-noted : (ms : List model.Variable) → note_all ms [] ws received ≡ []
-  none-noted [] = refl
-  none-noted (m ∷ ms) = refl
-
-  -- the usage at i is noted
-  pub noted_more : (i : ℕ) (us : List Usage) (d : Variable) (e new : Usage) → i < length vs → i < length us → new ≡ noted (get_or us i e) (letters (get_or vs i d).name) ws received → note_from i us ≡ note_from (i + 1) (set us i new)
-  noted_more i us d e new hv hu is =
-      let rest : List Usage → List Usage = λ l. note_all (map variable_of (drop (i + 1) vs)) l ws received in
-      ap (λ l. take i us ++ note_all l (drop i us) ws received) (one-variable vs i d hv)
-      ∙ ap (λ l. take i us ++ note_all (variable_of (get_or vs i d) ∷ map variable_of (drop (i + 1) vs)) l ws received) (drop_more us i e hu)
-      ∙ ap (λ u. take i us ++ (u ∷ rest (drop (i + 1) us))) (sym is)
-      ∙ sym (append_assoc (take i us) (new ∷ []) (rest (drop (i + 1) us)))
-      ∙ ap (λ l. l ++ rest (drop (i + 1) us)) (sym (take_more_set us i new hu))
-      ∙ ap (λ l. take (i + 1) (set us i new) ++ rest l) (sym (drop-set-lt (i + 1) us i new (omega arith)))
 
 module _ (vs : List Variable) (us : List Usage) where
   -- what the usages from i on come to

@@ -1,12 +1,5 @@
-use Rattle.std.proofs.Common.{arith}
-use Rattle.message.proofs.Spoken.{halved, opened, first-shorter, second-shorter, pair-told, seal-told}
+use Rattle.message.proofs.Spoken.{halved, opened, pair-told, seal-told}
 use Rattle.message.proofs.tell.+push_words.Goals as goal
-
-pub push_words-requires : goal.push_words-requires
-push_words-requires t c = (omega (arith, first-shorter _ _ _ (halved _ _ _ _ c.in_ok-number.ensures c.in-Pair.is)), tt)
-
-pub push_words-requires-in-Pair : goal.push_words-requires-in-Pair
-push_words-requires-in-Pair t c = (omega (arith, second-shorter _ _ _ (halved _ _ _ _ c.in_ok-number.ensures c.in-Pair.is)), tt)
 
 pub returns-in_ok-push_words-in-Pair-2 : goal.returns-in_ok-push_words-in-Pair-2
 returns-in_ok-push_words-in-Pair-2 t c =
