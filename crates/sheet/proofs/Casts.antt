@@ -1,9 +1,9 @@
 -- What the lists of the cast stand for.
 use Rattle.std.proofs.Common.{◌≡◌, ℕ, ◌||◌, List, [], ◌∷◌, map, refl, ap}
 use Rattle.std.specs.List.{list_any}
-use Rattle.terms.specs.declared.stored.Role.{Role}
+use Rattle.model.specs.declared.stored.Role.{Role}
 use Rattle.sheet.specs.Drafts.{variable_above}
-use Rattle.terms.specs.Stored.{role_of}
+use Rattle.model.specs.Stored.{role_of}
 use Rattle.terms.specs.Terms.{has, variable_names}
 
 -- some role has a variable of this name exactly if some role of the code has

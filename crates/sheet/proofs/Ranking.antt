@@ -1,13 +1,13 @@
 -- What is ranked already.
 use Rattle.std.proofs.Common.{◌≡◌, ◌||◌, List, [], ◌∷◌, map, refl, ap}
 use Rattle.std.specs.List.{list_any}
-use Rattle.terms.specs.declared.stored.Ranked.{Ranked}
-use Rattle.terms.specs.declared.stored.Signal.{Signal}
-use Rattle.terms.specs.declared.term.Node.{Node}
+use Rattle.model.specs.declared.stored.Ranked.{Ranked}
+use Rattle.model.specs.declared.stored.Signal.{Signal}
+use Rattle.model.specs.declared.node.Node.{Node}
 use Rattle.sheet.specs.Reading.{atom_ranked, signal_ranked}
 use Rattle.terms.specs.Same.{same_atom, same_signal}
-use Rattle.terms.specs.Sheet as model
-use Rattle.terms.specs.Stored.{ranked_of, signal_of}
+use Rattle.model.specs.Sheet as model
+use Rattle.model.specs.Stored.{ranked_of, signal_of}
 
 -- an atom or an event is ranked exactly if some line of the code ranks it
 pub any-atom : (rs : List (Ranked Node)) (a : Node) → list_any (λ r. same_atom r.what a) rs ≡ atom_ranked (map (ranked_of (λ n. n)) rs) a

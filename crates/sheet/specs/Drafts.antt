@@ -3,9 +3,10 @@ use Rattle.std.specs.Prelude.{ℕ, Bool, true, false, not, ◌&&◌, ◌||◌, L
 use Rattle.std.specs.Str.{bytes_eq}
 use Rattle.sheet.specs.declared.draft.Part.{Part}
 use Rattle.terms.specs.declared.usages.Usage.{Usage}
-use Rattle.terms.specs.declared.term.Node.{Node}
-use Rattle.terms.specs.Names.{is_name}
-use Rattle.terms.specs.Sheet.{Agent, Claim, Nonce, Ranked, Role, Signal, Step, Variable}
+use Rattle.model.specs.declared.node.Node.{Node}
+use Rattle.model.specs.Names.{is_name}
+use Rattle.model.specs.Sheet.{Agent, Claim, Nonce, Ranked, Role, Signal, Step, Variable}
+use Rattle.model.specs.Trees.{Term}
 use Rattle.terms.specs.Terms.{Scope, agent_names, has, nonce_names, role_names, variable_names}
 
 -- The role that is being read: its name and player.
@@ -32,7 +33,7 @@ pub record Table : Type 0 where
   pub free : List Variable
   pub usages : List Usage
   pub atoms : List (Ranked Node)
-  pub seals : List (Ranked (List Node))
+  pub seals : List (Ranked Term)
   pub marks : List (Ranked Signal)
 
 -- What is read so far, which lines may come next, and the lines of the section words, counted from 1.
@@ -41,7 +42,7 @@ pub record Draft : Type 0 where
   pub sections : List ℕ
   pub cast : Cast
   pub script : Script
-  pub known : List (List Node)
+  pub known : List Term
   pub claim : Option Claim
   pub table : Table
 

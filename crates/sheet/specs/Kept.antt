@@ -1,22 +1,23 @@
 -- What the code's draft of a sheet stands for.
-use Rattle.std.specs.Prelude.{◌≡◌, Bool, true, false, Ok, Err, vec_items, Result}
+use Rattle.std.specs.Prelude.{◌≡◌, Bool, true, false, Ok, Err, map, vec_items, Result}
 use Rattle.lexer.specs.declared.Declined.{Declined}
 use Rattle.lexer.specs.declared.Declined.TheVariants as declined
 use Rattle.lexer.specs.declared.Rule.TheVariants as rule
 use Rattle.lexer.specs.Text.{WordAt}
-use Rattle.terms.specs.declared.name.Name.{Name}
+use Rattle.model.specs.declared.name.Name.{Name}
 use Rattle.sheet.specs.declared.cast.Cast.{Cast}
 use Rattle.sheet.specs.declared.cast.Title.{Title}
 use Rattle.std.specs.Option.{option_map}
 use Rattle.sheet.specs.declared.draft.Draft.{Draft}
 use Rattle.sheet.specs.declared.script.Script.{Script}
-use Rattle.sheet.specs.declared.sheet.Contents.{Contents}
+use Rattle.sheet.specs.declared.contents.Contents.{Contents}
 use Rattle.sheet.specs.declared.table.Table.{Table}
-use Rattle.terms.specs.Sheet as model
+use Rattle.model.specs.Sheet as model
 use Rattle.sheet.specs.Drafts as drafts
-use Rattle.terms.specs.Names.{letters}
+use Rattle.sheet.specs.Sheets.{atom_of}
+use Rattle.model.specs.Names.{letters}
 use Rattle.terms.specs.Usages.{declared_of}
-use Rattle.terms.specs.Stored.{agent_of, claim_of, items, nonce_of, ranked_of, role_of, signal_of, step_of, nodes_of, variable_of}
+use Rattle.model.specs.Stored.{agent_of, claim_of, items, nonce_of, ranked_of, role_of, sealed_of, signal_of, step_of, term_of, variable_of}
 
 abbrev pub title_of : Title → drafts.Title
 title_of t = record { name = letters t.name; player = t.player }
@@ -28,10 +29,10 @@ unfoldable pub script_of : Script → drafts.Script
 script_of s = record { title = title_of s.title; variables = (declared_of s.variables).variables; usages = (declared_of s.variables).usages; steps = items step_of s.steps }
 
 unfoldable pub table_of : Table → drafts.Table
-table_of t = record { free = (declared_of t.free).variables; usages = (declared_of t.free).usages; atoms = items (ranked_of (λ n. n)) t.atoms; seals = items (ranked_of nodes_of) t.seals; marks = items (ranked_of signal_of) t.marks }
+table_of t = record { free = (declared_of t.free).variables; usages = (declared_of t.free).usages; atoms = items (ranked_of (λ n. n)) t.atoms; seals = items (ranked_of sealed_of) t.seals; marks = items (ranked_of signal_of) t.marks }
 
 abbrev pub draft_of : Draft → drafts.Draft
-draft_of d = record { part = d.part; sections = vec_items d.sections; cast = cast_of d.cast; script = script_of d.script; known = items nodes_of d.known; claim = option_map claim_of d.claim; table = table_of d.table }
+draft_of d = record { part = d.part; sections = vec_items d.sections; cast = cast_of d.cast; script = script_of d.script; known = items term_of d.known; claim = option_map claim_of d.claim; table = table_of d.table }
 
 abbrev pub contents_of : Contents → model.Sheet
 contents_of c = record {
@@ -39,11 +40,11 @@ contents_of c = record {
   texts = items letters c.texts;
   roles = items role_of c.roles;
   nonces = items nonce_of c.nonces;
-  known = items nodes_of c.known;
+  known = items term_of c.known;
   claim = claim_of c.claim;
   free = items variable_of c.free;
-  atoms = items (ranked_of (λ n. n)) c.atoms;
-  seals = items (ranked_of nodes_of) c.seals;
+  atoms = map atom_of (items (ranked_of (λ n. n)) c.atoms);
+  seals = items (ranked_of sealed_of) c.seals;
   marks = items (ranked_of signal_of) c.marks;
 }
 

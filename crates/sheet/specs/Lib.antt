@@ -2,3 +2,4 @@ pub mod Drafts
 pub mod Reading
 pub mod Kept
 pub mod Sections
+pub mod Sheets

@@ -8,14 +8,16 @@ use Rattle.lexer.specs.declared.Fault.{Fault}
 use Rattle.lexer.specs.declared.Rule.{Rule}
 use Rattle.lexer.specs.declared.Rule.TheVariants as rule
 use Rattle.lexer.specs.Text.{LineAt, is, word_at}
-use Rattle.terms.specs.declared.term.Field.{Field}
-use Rattle.terms.specs.declared.term.Field.TheVariants.{Player, Variable, Named}
-use Rattle.terms.specs.declared.term.Node.{Node}
-use Rattle.terms.specs.declared.term.Node.TheVariants as node
-use Rattle.terms.specs.declared.term.Sort.{Sort}
-use Rattle.terms.specs.declared.term.Sort.TheVariants.{Fresh, Plain}
-use Rattle.terms.specs.Names.{index_of}
-use Rattle.terms.specs.Sheet as model
+use Rattle.model.specs.declared.node.Field.{Field}
+use Rattle.model.specs.declared.node.Field.TheVariants.{Player, Variable, Named}
+use Rattle.model.specs.declared.node.Node.{Node}
+use Rattle.model.specs.declared.node.Node.TheVariants as node
+use Rattle.model.specs.declared.node.Sort.{Sort}
+use Rattle.model.specs.declared.node.Sort.TheVariants.{Fresh, Plain}
+use Rattle.model.specs.Names.{index_of}
+use Rattle.model.specs.Sheet as model
+use Rattle.model.specs.Sheet.{honest, may_play}
+use Rattle.model.specs.Trees.{Term, seal}
 use Rattle.terms.specs.Same.{same_atom, same_signal}
 use Rattle.terms.specs.Terms.{agent_names, and_then, fault, field_of, first_agent, or_fault, passing, read_signal, read_term, second_agent, value_of, variable_names}
 use Rattle.sheet.specs.Drafts.{Cast, Draft, Script, Table, Title, free_scope, named_scope, new_free, new_name, new_variable, script_scope}
@@ -48,10 +50,6 @@ text_line c l =
     (Ok (word_at l 1).text)))
 
 -- an honest agent of this name
-abbrev pub honest : Option model.Agent → Bool
-honest None = false
-honest (Some a) = not a.enemy
-
 abbrev pub player_of : Cast → List ℕ → Option ℕ
 player_of c w = passing (λ a. honest (slice_get c.agents a)) (index_of (agent_names c.agents) w)
 
@@ -92,16 +90,16 @@ fresh_line c s l =
     (Ok (record { name = (word_at l 1).text; sort = Fresh }))))
 
 -- `send TERM`, `recv TERM` and `sig WORD ATOMS`, at most eight in a role
-abbrev pub term_line : Cast → Script → LineAt → Result (List Node) Fault
+abbrev pub term_line : Cast → Script → LineAt → Result Term Fault
 term_line c s l =
     unless (nat_lt (length s.steps) 8) rule.Count l.place
     (read_term (script_scope c s) l.place (drop 1 l.words))
 
 abbrev pub send_line : Cast → Script → LineAt → Result model.Step Fault
-send_line c s l = and_then (term_line c s l) (λ ns. Ok (model.send ns))
+send_line c s l = and_then (term_line c s l) (λ t. Ok (model.send t))
 
 abbrev pub recv_line : Cast → Script → LineAt → Result model.Step Fault
-recv_line c s l = and_then (term_line c s l) (λ ns. Ok (model.receive ns))
+recv_line c s l = and_then (term_line c s l) (λ t. Ok (model.receive t))
 
 abbrev pub few_atoms : ℕ → Bool
 few_atoms n = nat_le 1 n && nat_le n 4
@@ -113,16 +111,12 @@ sig_line c s l =
     (and_then (read_signal (script_scope c s) (word_at l 1) (drop 2 l.words)) (λ x. Ok (model.signal x))))
 
 -- `nonce NAME AGENT ROLE FRESH`, at most six: an agent that may play the role, and a fresh variable there
-abbrev pub played_by : Cast → ℕ → Option ℕ → Bool
-played_by c a None = honest (slice_get c.agents a)
-played_by c a (Some p) = p == a
-
-abbrev pub may_play : Cast → ℕ → Option model.Role → Bool
-may_play c a None = false
-may_play c a (Some r) = played_by c a r.player
+abbrev pub plays : Cast → ℕ → Option model.Role → Bool
+plays c a None = false
+plays c a (Some r) = may_play c.agents r.player a
 
 abbrev pub playable : Cast → ℕ → List ℕ → Option ℕ
-playable c a w = passing (λ r. may_play c a (slice_get c.roles r)) (index_of (role_names c.roles) w)
+playable c a w = passing (λ r. plays c a (slice_get c.roles r)) (index_of (role_names c.roles) w)
 
 abbrev pub fresh_sort : Sort → Bool
 fresh_sort Fresh = true
@@ -150,10 +144,10 @@ nonce_line c l =
     Ok (record { name = (word_at l 1).text; agent = a; role = r; variable = v })))))))
 
 -- `know TERM`, at most eight
-abbrev pub know_line : Cast → List (List Node) → LineAt → Result (List Node) Fault
+abbrev pub know_line : Cast → List Term → LineAt → Result Term Fault
 know_line c known l =
     unless (nat_lt (length known) 8) rule.Count l.place
-    (and_then (read_term (named_scope c) l.place (drop 1 l.words)) (λ ns. Ok ns))
+    (read_term (named_scope c) l.place (drop 1 l.words))
 
 -- `holds WORD ATOMS needs WORD ATOMS`, once. The atoms run to the first `needs` after the first of them.
 abbrev pub needs_at : LineAt → Option ℕ
@@ -213,15 +207,15 @@ rank_line c t l =
     (Ok (record { rank = v; what = a }))))))
 
 -- `seal V AGENT AGENT TERM`, at most twelve
-abbrev pub seal_line : Cast → Table → LineAt → Result (model.Ranked (List Node)) Fault
+abbrev pub seal_line : Cast → Table → LineAt → Result (model.Ranked Term) Fault
 seal_line c t l =
     unless (nat_le 4 (length l.words)) rule.Line l.place
     (unless (nat_lt (length t.seals) 12) rule.Count l.place
     (and_then (or_fault (value_of (word_at l 1).text) rule.Value (word_at l 1).place) (λ v.
     and_then (or_fault (first_agent (free_scope c t) (word_at l 2).text) rule.Word (word_at l 2).place) (λ f.
     and_then (or_fault (second_agent (free_scope c t) (word_at l 3).text) rule.Word (word_at l 3).place) (λ g.
-    and_then (read_term (free_scope c t) l.place (drop 4 l.words)) (λ ns.
-    Ok (record { rank = v; what = node.Seal f g ∷ ns })))))))
+    and_then (read_term (free_scope c t) l.place (drop 4 l.words)) (λ x.
+    Ok (record { rank = v; what = seal f g x })))))))
 
 -- `mark V WORD ATOMS`, at most six
 abbrev pub signal_ranked : List (model.Ranked model.Signal) → model.Signal → Bool

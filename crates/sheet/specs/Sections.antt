@@ -1,15 +1,16 @@
--- Which lines may follow which, and the sheet that a whole text is.
-use Rattle.std.specs.Prelude.{ℕ, ◌+◌, Bool, true, false, cond, ◌&&◌, List, [], ◌∷◌, ◌++◌, length, drop, is_some, Some, None, Ok, codes, Option, Result, nat_lt}
+-- Which lines may follow which.
+use Rattle.std.specs.Prelude.{ℕ, ◌+◌, Bool, true, false, cond, ◌&&◌, List, [], ◌∷◌, ◌++◌, length, drop, is_some, Some, None, Ok, codes, Result, nat_lt}
 use Rattle.std.specs.Str.{bytes_eq}
 use Rattle.lexer.specs.declared.Fault.{Fault}
 use Rattle.lexer.specs.declared.Rule.TheVariants as rule
-use Rattle.lexer.specs.Text.{LineAt, WordAt, is, is_only, lexed}
+use Rattle.lexer.specs.Text.{LineAt, WordAt, is, is_only}
 use Rattle.sheet.specs.declared.draft.Part.{Part}
 use Rattle.sheet.specs.declared.draft.Part.TheVariants as part
-use Rattle.terms.specs.Sheet as model
+use Rattle.model.specs.Sheet as model
 use Rattle.terms.specs.Terms.{and_then, fault}
 use Rattle.terms.specs.declared.usages.Usage.{Usage}
-use Rattle.terms.specs.declared.term.Node.{Node}
+use Rattle.model.specs.declared.node.Node.{Node}
+use Rattle.model.specs.Trees.{Term}
 use Rattle.sheet.specs.Drafts.{Cast, Draft, Script, Table, Title}
 use Rattle.terms.specs.Usages.{check_usages, note_all}
 use Rattle.sheet.specs.Reading.{agent_line, back_line, claim_line, free_line, fresh_line, know_line, mark_line, nonce_line, rank_line, recv_line, role_shape, seal_line, send_line, sig_line, text_line, title_line, unless, var_line}
@@ -51,7 +52,7 @@ more_free t at v = record { free = t.free ++ (v ∷ []); usages = t.usages ++ (u
 abbrev pub more_atom : Table → model.Ranked Node → Table
 more_atom t r = record { free = t.free; usages = t.usages; atoms = t.atoms ++ (r ∷ []); seals = t.seals; marks = t.marks }
 
-abbrev pub more_seal : Table → model.Ranked (List Node) → List WordAt → Table
+abbrev pub more_seal : Table → model.Ranked Term → List WordAt → Table
 more_seal t r ws = record { free = t.free; usages = note_all t.free t.usages ws true; atoms = t.atoms; seals = t.seals ++ (r ∷ []); marks = t.marks }
 
 abbrev pub more_mark : Table → model.Ranked model.Signal → Table
@@ -171,7 +172,7 @@ in_nonces d n l =
     (cond (is_only l (codes "known")) (Ok (opened d part.Known n))
     (misplaced l))
 
-abbrev pub knowing : Draft → (List Node) → Draft
+abbrev pub knowing : Draft → Term → Draft
 knowing d t = record { part = d.part; sections = d.sections; cast = d.cast; script = d.script; known = d.known ++ (t ∷ []); claim = d.claim; table = d.table }
 
 abbrev pub claiming : Draft → model.Claim → Draft
@@ -245,42 +246,3 @@ blank = record { part = part.Start; sections = []; cast = no_cast; script = new_
 abbrev pub lines_from : Draft → ℕ → List LineAt → Result Draft Fault
 lines_from d n [] = Ok d
 lines_from d n (l ∷ ls) = and_then (in_part d.part d n l) (λ e. lines_from e (n + 1) ls)
-
-abbrev pub at_end : Part → Bool
-at_end part.Start = false
-at_end part.Opening = false
-at_end part.Agents = false
-at_end part.Texts = false
-at_end part.Roles = false
-at_end part.Variables = false
-at_end part.Steps = false
-at_end part.Nonces = false
-at_end part.Known = false
-at_end part.Claim = false
-at_end part.Free = false
-at_end part.Ranks = false
-at_end part.Seals = false
-at_end part.Marks = false
-at_end part.End = true
-
-abbrev pub sheet_from : Draft → model.Claim → model.Sheet
-sheet_from d claim = record {
-  agents = d.cast.agents;
-  texts = d.cast.texts;
-  roles = d.cast.roles;
-  nonces = d.cast.nonces;
-  known = d.known;
-  claim = claim;
-  free = d.table.free;
-  atoms = d.table.atoms;
-  seals = d.table.seals;
-  marks = d.table.marks;
-}
-
--- A text that ends too early lacks a line at its end.
-abbrev pub finished : ℕ → Draft → Option model.Claim → Result model.Sheet Fault
-finished end d None = fault rule.Count end
-finished end d (Some claim) = unless (at_end d.part) rule.Count end (Ok (sheet_from d claim))
-
-abbrev pub reading : List ℕ → Result model.Sheet Fault
-reading text = and_then (lexed text) (λ ls. and_then (lines_from blank 1 ls) (λ d. finished (length text) d d.claim))

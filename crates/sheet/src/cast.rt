@@ -3,19 +3,21 @@ ghost use Rattle.std.specs.Prelude.{◌≡◌, ◌&&◌, ◌||◌, not, map};
 ghost use Rattle.lexer.specs.Text.{line_of, word_of};
 ghost use Rattle.sheet.specs.Drafts.{named_scope, new_name, taken, variable_above};
 ghost use Rattle.sheet.specs.Kept.{Names, cast_of, title_of};
-ghost use Rattle.terms.specs.Names.{index_of, is_name, letters};
+ghost use Rattle.model.specs.Sheet.{honest, may_play};
+ghost use Rattle.model.specs.Names.{index_of, is_name, letters};
 ghost use Rattle.terms.specs.Outcomes.{Reads};
-ghost use Rattle.sheet.specs.Reading.{agent_line, agent_shape, honest, fresh_among, fresh_in, fresh_variable, kind_of, may_play, nonce_line, playable, played_by, player_of, text_line, title_line};
+ghost use Rattle.sheet.specs.Reading.{agent_line, agent_shape, fresh_among, fresh_in, fresh_variable, kind_of, nonce_line, playable, player_of, plays, text_line, title_line};
 ghost use Rattle.sheet.specs.Sections.{no_cast};
 ghost use Rattle.terms.specs.Scopes.{scope_of};
-ghost use Rattle.terms.specs.Stored.{agent_of, nonce_of, role_of, variable_of};
+ghost use Rattle.model.specs.Stored.{agent_of, nonce_of, role_of, variable_of};
 ghost use Rattle.terms.specs.Terms.{agent_names, has, role_names, variable_names};
 ghost use Rattle.std.specs.List.{slice_get};
 
 use lexer::{Declined, Line, Rule, Word};
 use message::Kind;
+use model::{Agent, Name, Nonce, Role, Sort, Variable, is_name};
 use std::alloc::Global;
-use terms::{Agent, Name, Nonce, Role, Scope, Sort, Variable, find, is_name};
+use terms::{Scope, find};
 
 const MOST_AGENTS: usize = 6;
 
@@ -235,7 +237,7 @@ impl Cast {
 
     // Whether a role with this player may be played by the agent. A match, since the two cases have nothing in common for a chain to say.
     fn is_played_by(&self, player: Option<usize>, agent: usize) -> bool
-        ensures { result ≡ played_by (cast_of self.now) agent player }
+        ensures { result ≡ may_play (cast_of self.now).agents player agent }
     {
         match player {
             None => self.is_honest(agent),
@@ -246,7 +248,7 @@ impl Cast {
     // Whether the agent may play the role.
     #[tactic(auto, unfolding(crate::specs::Kept::cast_of))]
     fn may_play(&self, agent: usize, role: usize) -> bool
-        ensures { result ≡ may_play (cast_of self.now) agent (slice_get (cast_of self.now).roles role) }
+        ensures { result ≡ plays (cast_of self.now) agent (slice_get (cast_of self.now).roles role) }
     {
         self.roles
             .get(role)

@@ -6,15 +6,16 @@ ghost use Rattle.sheet.specs.Kept.{cast_of, draft_of};
 ghost use Rattle.sheet.specs.Reading.{back_line, claim_at, claim_line, claim_shape, few_atoms, know_line, needs_at, role_shape, says_all, unless};
 ghost use Rattle.sheet.specs.Sections.{back_or, blank, closed, in_agents, in_claim, in_free, in_known, in_marks, in_nonces, in_opening, in_part, in_ranks, in_roles, in_seals, in_start, in_steps, in_texts, in_variables, next_role, opened, role_end, role_line, stepped};
 ghost use Rattle.terms.specs.Outcomes.{Becomes, Reads};
-ghost use Rattle.terms.specs.Stored.{claim_of, nodes_of, step_of};
-ghost use Rattle.terms.specs.Variables.{receives};
+ghost use Rattle.model.specs.Stored.{claim_of, step_of, term_of};
+ghost use Rattle.model.specs.Variables.{receives};
 
 use super::cast::Cast;
 use super::script::Script;
 use super::table::Table;
 use lexer::{Declined, Line, Rule, Word};
+use model::{Claim, Step, Term};
 use std::alloc::Global;
-use terms::{Claim, Node, Step, find, read_signal, read_term, same_signal};
+use terms::{find, read_signal, read_term, same_signal};
 
 // The first line of a sheet.
 const HEADING: &[u8] = b"link sheet 1";
@@ -54,7 +55,7 @@ pub struct Draft {
     pub sections: Vec<usize>,
     pub cast: Cast,
     pub script: Script,
-    pub known: Vec<Vec<Node>>,
+    pub known: Vec<Term>,
     pub claim: Option<Claim>,
     pub table: Table,
 }
@@ -332,8 +333,8 @@ impl Draft {
     }
 
     // `know TERM`
-    fn read_known(&self, line: &Line) -> Result<Vec<Node>, Declined>
-        ensures { Reads nodes_of (know_line (draft_of self.now).cast (draft_of self.now).known (line_of line.now)) result }
+    fn read_known(&self, line: &Line) -> Result<Term, Declined>
+        ensures { Reads term_of (know_line (draft_of self.now).cast (draft_of self.now).known (line_of line.now)) result }
     {
         if self.known.len() >= MOST_KNOWN {
             return Err(line.fault(Rule::Count));

@@ -2,9 +2,11 @@
 #![tactic(auto)]
 
 mod cast;
+mod contents;
 mod draft;
 mod script;
 mod sheet;
 mod table;
 
-pub use sheet::{Contents, Sheet};
+pub use contents::Contents;
+pub use sheet::Sheet;

@@ -6,19 +6,18 @@ ghost use Rattle.sheet.specs.Kept.{cast_of, script_of, title_of};
 ghost use Rattle.sheet.specs.Reading.{fresh_line, plain_line, sig_line, term_line, var_line};
 ghost use Rattle.sheet.specs.Sections.{more_step, new_script, no_title, role_read};
 ghost use Rattle.std.specs.Str.{bytes_eq};
-ghost use Rattle.terms.specs.Names.{is_name};
+ghost use Rattle.model.specs.Names.{is_name};
 ghost use Rattle.terms.specs.Outcomes.{Becomes, Reads};
 ghost use Rattle.terms.specs.Scopes.{scope_of};
-ghost use Rattle.terms.specs.Stored.{nodes_of, role_of, step_of, variable_of};
+ghost use Rattle.model.specs.Stored.{role_of, step_of, term_of, variable_of};
 ghost use Rattle.terms.specs.Terms.{has, variable_names};
-ghost use Rattle.terms.specs.Variables.{receives};
+ghost use Rattle.model.specs.Variables.{receives};
 
 use super::cast::{Cast, Title, new_name, read_kind};
 use lexer::{Declined, Line, Rule, Word};
+use model::{Name, Role, Sort, Step, Term, Variable};
 use std::alloc::Global;
-use terms::{
-    Name, Node, Role, Scope, Sort, Step, Variable, Variables, find, read_signal, read_term,
-};
+use terms::{Scope, Variables, find, read_signal, read_term};
 
 // Of a role, and of the ranks.
 const MOST_VARIABLES: usize = 5;
@@ -136,8 +135,8 @@ impl Script {
         heap: Global,
         cast: &'a Cast,
         line: &Line,
-    ) -> Result<Vec<Node>, Declined>
-        ensures { Reads nodes_of (term_line (cast_of cast.now) (script_of self.now) (line_of line.now)) result }
+    ) -> Result<Term, Declined>
+        ensures { Reads term_of (term_line (cast_of cast.now) (script_of self.now) (line_of line.now)) result }
     {
         if self.steps.len() >= MOST_STEPS {
             return Err(line.fault(Rule::Count));

@@ -3,29 +3,15 @@ ghost use Rattle.std.specs.Prelude.{◌≡◌, None};
 ghost use Rattle.lexer.specs.Text.{lines_of};
 ghost use Rattle.sheet.specs.Kept.{contents_of, draft_of};
 ghost use Rattle.terms.specs.Outcomes.{Reads, Sheeted};
-ghost use Rattle.sheet.specs.Sections.{blank, finished, lines_from, reading};
+ghost use Rattle.sheet.specs.Sections.{blank, lines_from};
+ghost use Rattle.sheet.specs.Sheets.{finished, reading};
 ghost use Rattle.std.specs.Option.{option_map};
 
+use super::contents::Contents;
 use super::draft::{Draft, Part};
 use lexer::{Declined, Line, Rule, read_lines};
 use std::alloc::Global;
 use std::marker::Model;
-use terms::{Agent, Claim, Name, Node, Nonce, Ranked, Role, Signal, Variable};
-
-// What a sheet says.
-#[derive(Drop)]
-pub struct Contents {
-    pub agents: Vec<Agent>,
-    pub texts: Vec<Name>,
-    pub roles: Vec<Role>,
-    pub nonces: Vec<Nonce>,
-    pub known: Vec<Vec<Node>>,
-    pub claim: Claim,
-    pub free: Vec<Variable>,
-    pub atoms: Vec<Ranked<Node>>,
-    pub seals: Vec<Ranked<Vec<Node>>>,
-    pub marks: Vec<Ranked<Signal>>,
-}
 
 // A link sheet.
 #[derive(Drop)]
@@ -38,10 +24,15 @@ pub struct Sheet {
 impl Model for Sheet {
     ghost use Rattle.std.specs.Prelude.{Option};
     ghost use Rattle.std.specs.Option.{option_map};
-    ghost use Rattle.terms.specs.Sheet as model;
+    ghost use Rattle.model.specs.Sheet as model;
     ghost use Rattle.sheet.specs.Kept.{contents_of};
 
+    ghost use Rattle.std.specs.Coded.{codes};
+    ghost use Rattle.model.specs.Codes.{term_code};
+
     ghost Value = { Option model.Sheet };
+
+    ghost coded = { Prim.hlevel (codes, term_code) };
 
     ghost view = { λ s. option_map contents_of s.contents };
 }

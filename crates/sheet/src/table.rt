@@ -1,5 +1,5 @@
 // The table of ranks, and what it may speak of.
-ghost use Rattle.std.specs.Prelude.{◌≡◌, ◌∷◌, ◌||◌, length, Ok, nat_lt, vec_items};
+ghost use Rattle.std.specs.Prelude.{◌≡◌, ◌||◌, length, nat_lt};
 ghost use Rattle.lexer.specs.Text.{line_of};
 ghost use Rattle.sheet.specs.Drafts.{free_scope, taken};
 ghost use Rattle.sheet.specs.Kept.{cast_of, table_of};
@@ -7,17 +7,17 @@ ghost use Rattle.sheet.specs.Reading.{atom_ranked, free_line, mark_line, numbere
 ghost use Rattle.sheet.specs.Sections.{no_table};
 ghost use Rattle.terms.specs.Outcomes.{Reads};
 ghost use Rattle.terms.specs.Scopes.{scope_of};
-ghost use Rattle.terms.specs.Stored.{nodes_of, ranked_of, signal_of, variable_of};
+ghost use Rattle.model.specs.Stored.{ranked_of, sealed_of, signal_of, variable_of};
 ghost use Rattle.terms.specs.Terms.{field_of, has, passing, variable_names};
 
 use super::cast::Cast;
 use super::script::read_plain;
 use lexer::{Declined, Line, Rule};
 use message::Kind;
+use model::{Field, Node, Ranked, Sealed, Signal, Variable};
 use std::alloc::Global;
 use terms::{
-    Field, Node, Ranked, Scope, Signal, Variable, Variables, find, read_signal, read_term,
-    read_value, same_atom, same_signal,
+    Scope, Variables, find, read_signal, read_term, read_value, same_atom, same_signal,
 };
 
 const MOST_ATOMS: usize = 12;
@@ -32,7 +32,7 @@ const MOST_MARKS: usize = 6;
 pub struct Table {
     pub free: Variables,
     pub atoms: Vec<Ranked<Node>>,
-    pub seals: Vec<Ranked<Vec<Node>>>,
+    pub seals: Vec<Ranked<Sealed>>,
     pub marks: Vec<Ranked<Signal>>,
 }
 
@@ -172,8 +172,8 @@ impl Table {
         heap: Global,
         cast: &'a Cast,
         line: &Line,
-    ) -> Result<Ranked<Vec<Node>>, Declined>
-        ensures { Reads (ranked_of nodes_of) (seal_line (cast_of cast.now) (table_of self.now) (line_of line.now)) result }
+    ) -> Result<Ranked<Sealed>, Declined>
+        ensures { Reads (ranked_of sealed_of) (seal_line (cast_of cast.now) (table_of self.now) (line_of line.now)) result }
     {
         if line.len() < 4 {
             return Err(line.fault(Rule::Line));
@@ -191,8 +191,14 @@ impl Table {
             .second_agent(second.text)
             .ok_or(second.fault(Rule::Word))?;
         let content = read_term(heap, &scope, line.place, line.from(4))?;
-        let what = sealed(heap, first, second, content)?;
-        Ok(Ranked { rank, what })
+        Ok(Ranked {
+            rank,
+            what: Sealed {
+                first,
+                second,
+                content,
+            },
+        })
     }
 
     // `mark V WORD ATOMS`. It is lent both too.
@@ -226,19 +232,4 @@ impl Table {
             .iter()
             .any(|ranked| same_signal(&ranked.what, signal))
     }
-}
-
-// The nodes of a seal, from those of its content.
-fn sealed(
-    heap: Global,
-    first: Field,
-    second: Field,
-    content: Vec<Node>,
-) -> Result<Vec<Node>, Declined>
-    ensures { Reads vec_items (Ok (Node.Seal first second ∷ content.items)) result }
-{
-    let mut nodes = Vec::new(heap);
-    nodes.push(Node::Seal(first, second))?;
-    nodes.extend_from_slice(content.as_slice())?;
-    Ok(nodes)
 }

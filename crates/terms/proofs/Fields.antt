@@ -1,7 +1,7 @@
 -- Two lists of atoms, compared one by one.
 use Rattle.std.proofs.Common.{◌≡◌, Bool, List, [], ◌∷◌, refl}
 use Rattle.std.specs.Cmp.Lexicographic.{pointwise}
-use Rattle.terms.specs.declared.term.Field.{Field}
+use Rattle.model.specs.declared.node.Field.{Field}
 use Rattle.terms.specs.Same.{same_field, same_fields}
 
 -- where a test tells the same atoms, it tells the same lists of them place by place

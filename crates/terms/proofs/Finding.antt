@@ -4,7 +4,7 @@ use Rattle.std.specs.List.{position, position_from}
 use Rattle.std.proofs.lemmas.Iterator.Adapters.{position_from-zero}
 use Rattle.std.specs.Option.{option_map}
 use Rattle.std.specs.Str.{bytes_eq}
-use Rattle.terms.specs.Names.{index_of}
+use Rattle.model.specs.Names.{index_of}
 
 module _ {X M : Type 0} (of : X → M) (name : M → List ℕ) (w : List ℕ) where
   -- the first whose name is this word is the first of the names that is this word, so much further on as the count begins

@@ -9,10 +9,10 @@ use Rattle.lexer.specs.declared.Fault.{Fault}
 use Rattle.lexer.specs.declared.Word.{Word}
 use Rattle.lexer.specs.Text.{WordAt, words_of}
 use Rattle.terms.specs.declared.usages.Usage.{Usage}
-use Rattle.terms.specs.declared.stored.Variable.{Variable}
+use Rattle.model.specs.declared.stored.Variable.{Variable}
 use Rattle.terms.specs.Usages.{check_usages, note_all, place_of}
-use Rattle.terms.specs.Sheet as model
-use Rattle.terms.specs.Stored.{variable_of}
+use Rattle.model.specs.Sheet as model
+use Rattle.model.specs.Stored.{variable_of}
 
 place-cond : (b : Bool) (w : Word) (o : Option Word) → option_map (λ x. x.place) (cond b (Some w) o) ≡ cond b (Some w.place) (option_map (λ x. x.place) o)
 place-cond true w o = refl

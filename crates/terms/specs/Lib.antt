@@ -1,9 +1,5 @@
-pub mod Names
-pub mod Sheet
 pub mod Terms
 pub mod Usages
 pub mod Same
-pub mod Stored
 pub mod Outcomes
 pub mod Scopes
-pub mod Variables

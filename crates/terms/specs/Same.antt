@@ -3,11 +3,11 @@ use Rattle.std.specs.Prelude.{Bool, true, false, ◌&&◌, ◌||◌, List, [], �
 use Rattle.std.specs.Str.{bytes_eq}
 use Rattle.message.specs.declared.Kind.{Kind}
 use Rattle.message.specs.declared.Kind.TheVariants as kind
-use Rattle.terms.specs.declared.term.Field.{Field}
-use Rattle.terms.specs.declared.term.Field.TheVariants.{Player, Variable, Named}
-use Rattle.terms.specs.declared.term.Node.{Node}
-use Rattle.terms.specs.declared.term.Node.TheVariants as node
-use Rattle.terms.specs.Sheet.{Signal}
+use Rattle.model.specs.declared.node.Field.{Field}
+use Rattle.model.specs.declared.node.Field.TheVariants.{Player, Variable, Named}
+use Rattle.model.specs.declared.node.Node.{Node}
+use Rattle.model.specs.declared.node.Node.TheVariants as node
+use Rattle.model.specs.Sheet.{Signal}
 
 abbrev pub same_kind : Kind → Kind → Bool
 same_kind kind.Agent kind.Agent = true

@@ -2,8 +2,8 @@
 use Rattle.std.specs.Prelude.{map, vec_items}
 use Rattle.terms.specs.declared.scope.Scope.{Scope}
 use Rattle.terms.specs.declared.reader.Progress.{Progress}
-use Rattle.terms.specs.Names.{letters}
-use Rattle.terms.specs.Stored.{agent_of, nonce_of, variable_of}
+use Rattle.model.specs.Names.{letters}
+use Rattle.model.specs.Stored.{agent_of, nonce_of, variable_of}
 use Rattle.terms.specs.Terms as terms
 
 abbrev pub scope_of : Scope → terms.Scope

@@ -10,18 +10,19 @@ use Rattle.lexer.specs.declared.Fault.{Fault}
 use Rattle.lexer.specs.declared.Rule.{Rule}
 use Rattle.lexer.specs.declared.Rule.TheVariants as rule
 use Rattle.lexer.specs.Text.{WordAt}
-use Rattle.terms.specs.declared.term.Expect.{Expect}
-use Rattle.terms.specs.declared.term.Expect.TheVariants as expect
-use Rattle.terms.specs.declared.term.Field.{Field}
-use Rattle.terms.specs.declared.term.Field.TheVariants.{Player, Variable, Named}
-use Rattle.terms.specs.declared.term.Node.{Node}
-use Rattle.terms.specs.declared.term.Node.TheVariants as node
-use Rattle.terms.specs.declared.term.Opening.{Opening}
-use Rattle.terms.specs.declared.term.Opening.TheVariants as opening
-use Rattle.terms.specs.declared.term.Sort.{Sort}
-use Rattle.terms.specs.declared.term.Sort.TheVariants.{Fresh, Plain}
-use Rattle.terms.specs.Names.{index_of, is_name}
-use Rattle.terms.specs.Sheet as model
+use Rattle.terms.specs.declared.expect.Expect.{Expect}
+use Rattle.terms.specs.declared.expect.Expect.TheVariants as expect
+use Rattle.model.specs.declared.node.Field.{Field}
+use Rattle.model.specs.declared.node.Field.TheVariants.{Player, Variable, Named}
+use Rattle.model.specs.declared.node.Node.{Node}
+use Rattle.model.specs.declared.node.Node.TheVariants as node
+use Rattle.terms.specs.declared.expect.Opening.{Opening}
+use Rattle.terms.specs.declared.expect.Opening.TheVariants as opening
+use Rattle.model.specs.declared.node.Sort.{Sort}
+use Rattle.model.specs.declared.node.Sort.TheVariants.{Fresh, Plain}
+use Rattle.model.specs.Names.{index_of, is_name}
+use Rattle.model.specs.Sheet as model
+use Rattle.model.specs.Trees.{Term, tree}
 
 -- a broken rule and where; and going on with what came
 abbrev pub fault : {X : Type 0} → Rule → ℕ → Result X Fault
@@ -144,8 +145,11 @@ term_from s at p room (w ∷ ws) =
     cond (complete p || room == 0) (fault rule.Length w.place)
     (and_then (word_on s p.expect p.wanted p.done w) (λ q. term_from s at q (room - 1) ws))
 
-unfoldable pub read_term : Scope → ℕ → List WordAt → Result (List Node) Fault
-read_term s at ws = term_from s at (reached expect.Term 1 []) 32 ws
+unfoldable pub read_nodes : Scope → ℕ → List WordAt → Result (List Node) Fault
+read_nodes s at ws = term_from s at (reached expect.Term 1 []) 32 ws
+
+unfoldable pub read_term : Scope → ℕ → List WordAt → Result Term Fault
+read_term s at ws = and_then (read_nodes s at ws) (λ ns. Ok (tree ns))
 
 -- the atoms of a signal
 abbrev pub fields_from : Scope → List Field → List WordAt → Result (List Field) Fault

@@ -5,13 +5,13 @@ use Rattle.message.specs.declared.Kind.TheVariants as kind
 use Rattle.lexer.specs.declared.Fault.{Fault}
 use Rattle.lexer.specs.declared.Rule.TheVariants as rule
 use Rattle.lexer.specs.Text.{WordAt}
-use Rattle.terms.specs.declared.term.Sort.{Sort}
-use Rattle.terms.specs.declared.term.Sort.TheVariants.{Fresh, Plain}
+use Rattle.model.specs.declared.node.Sort.{Sort}
+use Rattle.model.specs.declared.node.Sort.TheVariants.{Fresh, Plain}
 use Rattle.terms.specs.declared.usages.First.{First}
 use Rattle.terms.specs.declared.usages.Usage.{Usage}
 use Rattle.terms.specs.declared.usages.Variables.{Variables}
-use Rattle.terms.specs.Sheet.{Variable}
-use Rattle.terms.specs.Stored.{items, variable_of}
+use Rattle.model.specs.Sheet.{Variable}
+use Rattle.model.specs.Stored.{items, variable_of}
 use Rattle.terms.specs.Terms.{and_then, fault}
 
 -- the place of the first of these words that is this name

@@ -2,13 +2,12 @@
 ghost use Rattle.std.specs.Prelude.{◌≡◌, ℕ, List, map};
 ghost use Rattle.lexer.specs.Text.{WordAt, word_of};
 ghost use Rattle.std.specs.Str.{bytes_eq};
-ghost use Rattle.terms.specs.Names.{index_of, letters};
-ghost use Rattle.terms.specs.Sheet as model;
-ghost use Rattle.terms.specs.Stored.{agent_of, nonce_of, role_of, variable_of};
+ghost use Rattle.model.specs.Names.{index_of, letters};
+ghost use Rattle.model.specs.Sheet as model;
+ghost use Rattle.model.specs.Stored.{agent_of, nonce_of, role_of, variable_of};
 
-use super::name::Name;
-use super::stored::{Agent, Nonce, Role, Variable};
 use lexer::Word;
+use model::{Agent, Name, Nonce, Role, Variable};
 
 // What has a name.
 pub trait Named {

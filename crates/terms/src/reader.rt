@@ -3,14 +3,13 @@ ghost use Rattle.std.specs.Prelude.{◌≡◌, ◌-◌, ◌<◌, ◌||◌, [], �
 ghost use Rattle.lexer.specs.Text.{word_of, words_of};
 ghost use Rattle.terms.specs.Outcomes.{Becomes, Reads};
 ghost use Rattle.terms.specs.Scopes.{progress_of, scope_of};
-ghost use Rattle.terms.specs.Stored.{signal_of};
-ghost use Rattle.terms.specs.Terms.{closed, complete, fields_from, reached, read_signal, read_term, term_word, word_on};
+ghost use Rattle.model.specs.Stored.{signal_of, term_of};
+ghost use Rattle.terms.specs.Terms.{closed, complete, fields_from, reached, read_nodes, read_signal, read_term, term_word, word_on};
 
-use super::name::{Name, is_name};
+use super::expect::{Expect, Opening};
 use super::scope::Scope;
-use super::stored::Signal;
-use super::term::{Expect, Field, Node, Opening};
 use lexer::{Declined, Rule, Word};
+use model::{Field, Name, Node, Signal, Term, is_name};
 use std::alloc::Global;
 
 // No term has more words.
@@ -101,13 +100,13 @@ impl Progress {
 }
 
 // The nodes of the term that the words are; the line lies at `place`.
-pub fn read_term(
+fn read_nodes(
     heap: Global,
     scope: &Scope,
     place: usize,
     words: &[Word],
 ) -> Result<Vec<Node>, Declined>
-    ensures { Reads vec_items (read_term (scope_of scope.now) place (words_of words.now)) result }
+    ensures { Reads vec_items (read_nodes (scope_of scope.now) place (words_of words.now)) result }
 {
     let mut progress = Progress {
         expect: Expect::Term,
@@ -124,6 +123,21 @@ pub fn read_term(
         return Err(Rule::Length.at(place));
     }
     Ok(progress.done)
+}
+
+// The term that the words are.
+#[tactic(auto, using(crate::proofs::TermShape::shaped), unfolding(crate::specs::Terms::read_term))]
+pub fn read_term(
+    heap: Global,
+    scope: &Scope,
+    place: usize,
+    words: &[Word],
+) -> Result<Term, Declined>
+    ensures { Reads term_of (read_term (scope_of scope.now) place (words_of words.now)) result }
+{
+    let nodes = read_nodes(heap, scope, place, words)?;
+    // It is always one; that its nodes are a term is a fact of the type.
+    Term::new(nodes).ok_or(Rule::Length.at(place))
 }
 
 // What each of the words stands for.

@@ -1,10 +1,9 @@
 // When two atoms, and two events, are the same.
 ghost use Rattle.std.specs.Prelude.{◌≡◌};
 ghost use Rattle.terms.specs.Same.{same_atom, same_signal};
-ghost use Rattle.terms.specs.Stored.{signal_of};
+ghost use Rattle.model.specs.Stored.{signal_of};
 
-use super::stored::Signal;
-use super::term::Node;
+use model::{Node, Signal};
 
 // The same word and the same atoms in order.
 pub fn same_signal(a: &Signal, b: &Signal) -> bool

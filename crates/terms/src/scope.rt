@@ -3,11 +3,9 @@ ghost use Rattle.std.specs.Prelude.{◌≡◌};
 ghost use Rattle.terms.specs.Scopes.{scope_of};
 ghost use Rattle.terms.specs.Terms.{agent_field, field_of, first_agent, second_agent};
 
-use super::name::Name;
 use super::named::find;
-use super::stored::{Agent, Nonce, Variable};
-use super::term::{Field, Sort};
 use message::Kind;
+use model::{Agent, Field, Name, Nonce, Sort, Variable};
 
 // The agent that plays the role, in its script.
 const SELF: &[u8] = b"self";

@@ -3,12 +3,11 @@ ghost use Rattle.std.specs.Prelude.{◌≡◌, map, length, Ok};
 ghost use Rattle.lexer.specs.Text.{words_of};
 ghost use Rattle.terms.specs.Usages.{check_first, check_usages, declared_of, noted, noted_in, one_more, place_of, undeclared};
 ghost use Rattle.terms.specs.Outcomes.{Becomes, Reads};
-ghost use Rattle.terms.specs.Stored.{items, variable_of};
+ghost use Rattle.model.specs.Stored.{items, variable_of};
 
-use super::stored::Variable;
-use super::term::Sort;
 use lexer::{Declined, Rule, Word};
 use message::Kind;
+use model::{Sort, Variable};
 use std::alloc::Global;
 
 // Where a variable first stands, and whether that line receives.

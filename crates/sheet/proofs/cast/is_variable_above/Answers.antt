@@ -1,7 +1,7 @@
 use Rattle.std.proofs.Common.{◌∙◌, rules}
 use Rattle.std.proofs.lemmas.Iterator.{YieldsList-from_slice}
 use Rattle.std.proofs.lemmas.Iterator.Search.{any_from_yields_List}
-use Rattle.terms.specs.Stored.{role_of}
+use Rattle.model.specs.Stored.{role_of}
 use Rattle.terms.specs.Terms.{has, variable_names}
 use Rattle.sheet.proofs.Casts.{any-above}
 use Rattle.sheet.proofs.cast.is_variable_above.Goals as goal

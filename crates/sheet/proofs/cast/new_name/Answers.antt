@@ -1,6 +1,6 @@
 use Rattle.std.proofs.Common.{◌≡◌, true, rules, sym, ◌∙◌}
-use Rattle.terms.specs.Names.{is_name}
-use Rattle.terms.proofs.Naming.{name-short}
+use Rattle.model.specs.Names.{is_name}
+use Rattle.model.proofs.Naming.{name-short}
 use Rattle.sheet.proofs.cast.new_name.Goals as goal
 
 pub returns : goal.returns

@@ -1,6 +1,6 @@
 use Rattle.std.proofs.Common.{rules}
 use Rattle.terms.specs.Terms.{read_signal}
-use Rattle.terms.proofs.Naming.{name-short}
+use Rattle.model.proofs.Naming.{name-short}
 use Rattle.terms.proofs.reader.read_signal.Goals as goal
 
 pub returns-then-not-is_name : goal.returns-then-not-is_name

@@ -2,7 +2,7 @@ use Rattle.std.proofs.Common.{vec_items, rules, ◌∙◌}
 use Rattle.std.proofs.lemmas.Iterator.{YieldsList-from_slice}
 use Rattle.std.proofs.lemmas.Iterator.Search.{any_from_yields_List}
 use Rattle.terms.specs.Same.{same_signal}
-use Rattle.terms.specs.Stored.{signal_of}
+use Rattle.model.specs.Stored.{signal_of}
 use Rattle.sheet.proofs.Ranking.{any-signal}
 use Rattle.sheet.specs.Kept.{table_of}
 use Rattle.sheet.proofs.table.Table.is_marked.Goals as goal

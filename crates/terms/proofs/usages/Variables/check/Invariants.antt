@@ -1,6 +1,6 @@
 use Rattle.std.proofs.Common.{◌≡◌, map, length, vec_items}
 use Rattle.terms.specs.Usages.{check_usages}
-use Rattle.terms.specs.Stored.{variable_of}
+use Rattle.model.specs.Stored.{variable_of}
 use Rattle.terms.proofs.Standing.{check_from}
 use Rattle.terms.proofs.usages.Variables.check.Given as goal
 

@@ -1,7 +1,7 @@
 use Rattle.std.proofs.Common.{◌≡◌, map, vec_items}
 use Rattle.lexer.specs.Text.{words_of}
 use Rattle.terms.specs.Usages.{note_all}
-use Rattle.terms.specs.Stored.{variable_of}
+use Rattle.model.specs.Stored.{variable_of}
 use Rattle.terms.proofs.Standing.{note_from}
 use Rattle.terms.proofs.usages.Variables.note.Given as goal
 

@@ -1,10 +1,10 @@
 use Rattle.std.proofs.Common.{rules}
-use Rattle.terms.specs.Terms.{read_term}
+use Rattle.terms.specs.Terms.{read_nodes}
 use Rattle.terms.proofs.TermWords.{term-more}
-use Rattle.terms.proofs.reader.read_term.Goals as goal
+use Rattle.terms.proofs.reader.read_nodes.Goals as goal
 
 pub loop-i-init : goal.loop-i-init
-unfolding read_term
+unfolding read_nodes
 loop-i-init c = search rules
 
 pub loop-i-preserved : goal.loop-i-preserved

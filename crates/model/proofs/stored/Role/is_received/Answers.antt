@@ -1,11 +1,11 @@
 use Rattle.std.proofs.Common.{rules, ◌∙◌}
 use Rattle.std.proofs.lemmas.Iterator.{YieldsList-from_slice}
 use Rattle.std.proofs.lemmas.Iterator.Search.{find_from_yields_List}
-use Rattle.terms.proofs.Standings.{received-found}
-use Rattle.terms.specs.Stored.{step_of}
-use Rattle.terms.specs.Variables.{stands_in_step}
+use Rattle.model.proofs.Standings.{received-found}
+use Rattle.model.specs.Stored.{step_of}
+use Rattle.model.specs.Variables.{stands_in_step}
 use borrow.Author.Tests.{tests}
-use Rattle.terms.proofs.stored.Role.is_received.Goals as goal
+use Rattle.model.proofs.stored.Role.is_received.Goals as goal
 
 pub returns : goal.returns
 returns c =

@@ -4,7 +4,7 @@ use Rattle.std.specs.List.{list_all, list_any}
 use Rattle.std.specs.Option.{option_map}
 use Rattle.std.specs.Char.{is_ascii_alphanumeric, is_ascii_alphabetic}
 use Rattle.std.specs.Str.{bytes_eq}
-use Rattle.terms.specs.declared.name.Name.{Name}
+use Rattle.model.specs.declared.name.Name.{Name}
 
 -- the letters of a name
 abbrev pub letters : Name → List ℕ

@@ -2,7 +2,7 @@
 use Rattle.std.proofs.Common.{◌≡◌, ℕ, true, not, ◌&&◌, leb, List, length, take, sym}
 use Rattle.std.proofs.lemmas.List.{take_all}
 use Rattle.std.proofs.lemmas.Bool.{and_parts, leb-true}
-use Rattle.terms.specs.Names.{alphanumeric, among, begins_with_letter, is_name, reserved, spelled}
+use Rattle.model.specs.Names.{alphanumeric, among, begins_with_letter, is_name, reserved, spelled}
 
 -- a word that is a name has at most eight letters, so it is not cut short
 pub name-short : (w : List ℕ) → true ≡ is_name w → take 8 w ≡ w

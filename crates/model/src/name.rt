@@ -1,6 +1,6 @@
 // Names, and which words are names.
 ghost use Rattle.std.specs.Prelude.{◌≡◌, ◌≤◌, length, take};
-ghost use Rattle.terms.specs.Names.{alphanumeric, begins_with_letter, is_name, letters, spelled};
+ghost use Rattle.model.specs.Names.{alphanumeric, begins_with_letter, is_name, letters, spelled};
 ghost use Rattle.std.specs.List.{list_any};
 ghost use Rattle.std.specs.Str.{bytes_eq};
 

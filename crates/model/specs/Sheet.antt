@@ -1,18 +1,21 @@
 -- The link sheet: who takes part, their scripts, what the enemy knows beforehand, the claim, and the table of ranks.
-use Rattle.std.specs.Prelude.{ℕ, Bool, List, ℤ, Option}
-use Rattle.terms.specs.declared.term.Field.{Field}
-use Rattle.terms.specs.declared.term.Node.{Node}
-use Rattle.terms.specs.declared.term.Sort.{Sort}
+use Rattle.std.specs.Prelude.{ℕ, Bool, false, not, List, length, ℤ, Some, None, Option, ◌==◌}
+use Rattle.std.specs.List.{slice_get}
+use Rattle.message.specs.declared.Kind.{Kind}
+use Rattle.message.specs.declared.Kind.TheVariants as kind
+use Rattle.model.specs.declared.node.Field.{Field}
+use Rattle.model.specs.declared.node.Sort.{Sort}
+use Rattle.model.specs.Trees.{Term}
 
 -- An event as a script or a line writes it: a signal word, and atoms in order.
 pub record Signal : Type 0 where
   pub word : List ℕ
   pub fields : List Field
 
--- A step of a script. A term is its nodes in prefix order.
+-- A step of a script.
 pub data Step : Type 0 where
-  send : List Node → Step
-  receive : List Node → Step
+  send : Term → Step
+  receive : Term → Step
   signal : Signal → Step
 
 pub record Agent : Type 0 where
@@ -54,9 +57,25 @@ pub record Sheet : Type 0 where
   pub texts : List (List ℕ)
   pub roles : List Role
   pub nonces : List Nonce
-  pub known : List (List Node)
+  pub known : List Term
   pub claim : Claim
   pub free : List Variable
-  pub atoms : List (Ranked Node)
-  pub seals : List (Ranked (List Node))
+  pub atoms : List (Ranked Term)
+  pub seals : List (Ranked Term)
   pub marks : List (Ranked Signal)
+
+-- How many agents, nonces and texts have a name. They are numbered from 0, and other numbers are unnamed.
+abbrev pub named : Sheet → Kind → ℕ
+named m kind.Agent = length m.agents
+named m kind.Nonce = length m.nonces
+named m kind.Text = length m.texts
+
+-- An honest agent is one that is named and not marked as the enemy's.
+abbrev pub honest : Option Agent → Bool
+honest None = false
+honest (Some a) = not a.enemy
+
+-- The player alone plays its role; without one every honest agent may.
+abbrev pub may_play : List Agent → Option ℕ → ℕ → Bool
+may_play agents None a = honest (slice_get agents a)
+may_play agents (Some p) a = p == a

@@ -1,6 +1,7 @@
 // What a sheet is made of, as it is kept in memory.
 use super::name::Name;
-use super::term::{Field, Node, Sort};
+use super::node::{Field, Sort};
+use super::term::Term;
 
 // An agent, honest or the enemy's.
 #[derive(Clone, Copy)]
@@ -23,11 +24,11 @@ pub struct Signal {
     pub fields: Vec<Field>,
 }
 
-// A step of a role's script. A term is its nodes in prefix order.
+// A step of a role's script.
 #[derive(Drop)]
 pub enum Step {
-    Send(Vec<Node>),
-    Receive(Vec<Node>),
+    Send(Term),
+    Receive(Term),
     Signal(Signal),
 }
 
@@ -54,6 +55,14 @@ pub struct Nonce {
 pub struct Claim {
     pub completion: Signal,
     pub needed: Signal,
+}
+
+// A seal under the key of two agents, as a line of the ranks has it. The bound on words is its content's.
+#[derive(Drop)]
+pub struct Sealed {
+    pub first: Field,
+    pub second: Field,
+    pub content: Term,
 }
 
 // A line that gives a rank.

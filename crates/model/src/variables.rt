@@ -1,10 +1,11 @@
 // Where a variable of a role stands, and whether it is received.
 ghost use Rattle.std.specs.Prelude.{◌≡◌};
-ghost use Rattle.terms.specs.Stored.{role_of, step_of};
-ghost use Rattle.terms.specs.Variables.{received, receives, stands_among, stands_at, stands_in, stands_in_step};
+ghost use Rattle.model.specs.Stored.{role_of, step_of, term_of};
+ghost use Rattle.model.specs.Variables.{received, receives, stands_among, stands_at, stands_at_some, stands_in, stands_in_step};
 
+use super::node::{Field, Node};
 use super::stored::{Role, Step};
-use super::term::{Field, Node};
+use super::term::Term;
 
 // Whether the variable is an atom of this one node.
 fn stands_at(node: Node, variable: usize) -> bool
@@ -18,10 +19,18 @@ fn stands_at(node: Node, variable: usize) -> bool
     }
 }
 
-fn stands_in(nodes: &[Node], variable: usize) -> bool
-    ensures { result ≡ stands_in variable nodes.now }
+fn stands_at_some(nodes: &[Node], variable: usize) -> bool
+    ensures { result ≡ stands_at_some variable nodes.now }
 {
     nodes.iter().any(|node| stands_at(*node, variable))
+}
+
+// Whether the variable stands in the term.
+#[tactic(auto, using(crate::proofs::Standings::stands_by_nodes))]
+fn stands_in(term: &Term, variable: usize) -> bool
+    ensures { result ≡ stands_in variable (term_of term.now) }
+{
+    stands_at_some(term.nodes(), variable)
 }
 
 fn stands_among(fields: &[Field], variable: usize) -> bool
@@ -34,7 +43,7 @@ fn stands_in_step(step: &Step, variable: usize) -> bool
     ensures { result ≡ stands_in_step variable (step_of step.now) }
 {
     match step {
-        Step::Send(nodes) | Step::Receive(nodes) => stands_in(nodes, variable),
+        Step::Send(term) | Step::Receive(term) => stands_in(term, variable),
         Step::Signal(signal) => stands_among(&signal.fields, variable),
     }
 }

@@ -1,0 +1,4 @@
+pub mod Naming
+pub mod Standings
+pub mod Trees
+pub mod Counting
