@@ -2,10 +2,10 @@
 #![tactic(auto)]
 
 use lexer::Declined;
+use model::{Agent, Role, Sort};
 use sheet::{Contents, Sheet};
 use std::fmt;
 use std::io::Read;
-use terms::{Agent, Role, Sort};
 
 // No sheet has more bytes.
 const MOST_BYTES: u64 = 8192;
@@ -61,14 +61,14 @@ impl<'a> fmt::Display for ToldRole<'a> {
 fn tell(rt: &HostRuntime, contents: &Contents) -> anyhow::Result<()> {
     println!(rt;
         "sheet read: {} agents, {} texts, {} roles, {} nonces, {} known",
-        contents.agents.len(),
-        contents.texts.len(),
-        contents.roles.len(),
-        contents.nonces.len(),
-        contents.known.len()
+        contents.agents().len(),
+        contents.texts().len(),
+        contents.roles().len(),
+        contents.nonces().len(),
+        contents.known().len()
     )?;
-    for role in &contents.roles {
-        let agents = contents.agents.as_slice();
+    for role in contents.roles() {
+        let agents = contents.agents();
         println!(rt; "{}", ToldRole { agents, role })?;
     }
     Ok(())

@@ -768,15 +768,15 @@ mod tests {
         sheet.read(&first_lines(heap, EXAMPLE.len())?)?;
         let contents = sheet.contents().ok_or("the sheet is empty")?;
         let counts = [
-            contents.agents.len(),
-            contents.texts.len(),
-            contents.roles.len(),
-            contents.nonces.len(),
-            contents.known.len(),
-            contents.free.len(),
-            contents.atoms.len(),
-            contents.seals.len(),
-            contents.marks.len(),
+            contents.agents().len(),
+            contents.texts().len(),
+            contents.roles().len(),
+            contents.nonces().len(),
+            contents.known().len(),
+            contents.free().len(),
+            contents.atoms().len(),
+            contents.seals().len(),
+            contents.marks().len(),
         ];
         assert_eq!(rt; counts, [3, 4, 2, 2, 2, 2, 3, 2, 2]);
         Ok(())
