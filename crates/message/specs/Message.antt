@@ -1,5 +1,7 @@
 -- What a message is, and the bytes that stand for it.
 use Rattle.std.specs.Prelude.{◌≡◌, ℕ, ◌/◌, ◌%◌, ◌<◌, ◌≤◌, min, max, List, [], ◌∷◌, ◌++◌, length}
+use Rattle.message.specs.declared.Atom.{Atom}
+use Rattle.message.specs.declared.Atom.TheVariants as atoms
 use Rattle.message.specs.declared.Kind.{Kind}
 use Rattle.message.specs.declared.Kind.TheVariants.{Agent, Nonce, Text}
 
@@ -18,11 +20,17 @@ pub data Msg : Type 0 where
   seal : Key → Msg → Msg
   deriving Discrete as msg_discrete
 
+-- The message that is just an agent, a nonce or a text.
+abbrev pub single : Atom → Msg
+single (atoms.Agent n) = agent n
+single (atoms.Nonce n) = nonce n
+single (atoms.Text n) = text n
+
 -- The atom of a kind and number.
-abbrev pub atom : Kind → ℕ → Msg
-atom Agent n = agent n
-atom Nonce n = nonce n
-atom Text n = text n
+abbrev pub atom : Kind → ℕ → Atom
+atom Agent n = atoms.Agent n
+atom Nonce n = atoms.Nonce n
+atom Text n = atoms.Text n
 
 -- How many there are of a kind; they are numbered from 0.
 abbrev pub size : Kind → ℕ

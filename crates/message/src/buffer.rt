@@ -2,9 +2,9 @@
 // are read: a pair before its halves, a seal before its content.
 ghost use Rattle.std.specs.Prelude.{◌≡◌, ◌<◌, ◌≤◌, length, min, max, [], ◌∷◌, MatchResult};
 ghost use Rattle.message.specs.Building.{Adds};
-ghost use Rattle.message.specs.Message.{atom, key, key_bytes, key_of, size, wire};
+ghost use Rattle.message.specs.Message.{key, key_bytes, key_of, single, size, two_bytes, wire};
 
-use super::{Kind, MOST, NotMessage};
+use super::{Atom, Kind, MOST, NotMessage};
 use short_bytes::ShortBytes;
 use std::marker::Model;
 
@@ -50,15 +50,14 @@ impl Message {
         self.bytes.as_bytes()
     }
 
-    // An atom, by its kind and number.
-    pub fn atom(&mut self, kind: Kind, number: u16) -> Result<(), NotMessage>
-        ensures { Adds (number < size kind) (wire (atom kind number)) self.old self.new result }
+    // An agent, a nonce or a text.
+    pub fn atom(&mut self, atom: Atom) -> Result<(), NotMessage>
+        ensures { Adds (Unit {0}) (wire (single atom)) self.old self.new result }
     {
-        let [high, low] = number.to_be_bytes();
-        match kind {
-            Kind::Agent => self.append(&[b'A', u8::try_from(number)?]),
-            Kind::Nonce => self.append(&[b'N', high, low]),
-            Kind::Text => self.append(&[b'T', high, low]),
+        match atom {
+            Atom::Agent(number) => self.append(&[b'A', number]),
+            Atom::Nonce(number) => self.append_numbered(b'N', number),
+            Atom::Text(number) => self.append_numbered(b'T', number),
         }
     }
 
@@ -83,6 +82,14 @@ impl Message {
     {
         let [lesser, greater] = owners(a, b)?;
         self.append(&[b'E', b'K', lesser, greater])
+    }
+
+    // A letter, and a number in two bytes.
+    fn append_numbered(&mut self, letter: u8, number: u16) -> Result<(), NotMessage>
+        ensures { Adds (Unit {0}) (letter ∷ two_bytes number) self.old self.new result }
+    {
+        let [high, low] = number.to_be_bytes();
+        self.append(&[letter, high, low])
     }
 
     fn append(&mut self, piece: &[u8]) -> Result<(), NotMessage>

@@ -23,6 +23,14 @@ pub enum Kind {
     Text,
 }
 
+// An agent, a nonce or a text, by its number.
+#[derive(Clone, Copy, PartialEq, Eq, Debug)]
+pub enum Atom {
+    Agent(u8),
+    Nonce(u16),
+    Text(u16),
+}
+
 // No message has more bytes.
 pub const MOST: usize = 96;
 

@@ -140,10 +140,10 @@ mod tests {
         built.key(5, 2)?;
         built.seal(1, 0)?;
         built.pair()?;
-        built.atom(Kind::Agent, 255)?;
+        built.atom(Atom::Agent(255))?;
         built.pair()?;
-        built.atom(Kind::Nonce, 258)?;
-        built.atom(Kind::Text, 65535)?;
+        built.atom(Atom::Nonce(258))?;
+        built.atom(Atom::Text(65535))?;
         assert_eq!(rt;
             built.as_bytes(),
             b"PK\x02\x05EK\x00\x01PA\xFFPN\x01\x02T\xFF\xFF".as_slice()
@@ -155,7 +155,6 @@ mod tests {
     fn refuses_numbers_out_of_range(rt: HostRuntime) -> Result<(), Fail> {
         let mut built = Message::new();
         built.pair()?;
-        assert_eq!(rt; built.atom(Kind::Agent, 256), Err(NotMessage));
         assert_eq!(rt; built.key(0, 256), Err(NotMessage));
         assert_eq!(rt; built.key(256, 0), Err(NotMessage));
         assert_eq!(rt; built.seal(65535, 255), Err(NotMessage));
@@ -166,7 +165,7 @@ mod tests {
     // That 94 bytes that lack one atom take an agent and then nothing more; and no nonce, whose last byte would be the 97th.
     fn check_ends_at_96(rt: &impl Abort, heap: Global, started: Message) -> Result<(), Fail> {
         let mut full = started;
-        full.atom(Kind::Agent, 2)?;
+        full.atom(Atom::Agent(2))?;
         assert_eq!(rt; full.as_bytes().len(), 96);
         assert!(rt; is_message(full.as_bytes()));
         let mut bytes = full.as_bytes().to_vec(heap)?;
@@ -176,7 +175,7 @@ mod tests {
         assert_eq!(rt; full.as_bytes().len(), 96);
 
         let mut over = started;
-        assert_eq!(rt; over.atom(Kind::Nonce, 2), Err(NotMessage));
+        assert_eq!(rt; over.atom(Atom::Nonce(2)), Err(NotMessage));
         assert_eq!(rt; over.as_bytes(), started.as_bytes());
         let mut bytes = started.as_bytes().to_vec(heap)?;
         bytes.extend_from_slice(b"N\x00\x02")?;
@@ -190,10 +189,10 @@ mod tests {
         let mut built = Message::new();
         for number in 0..30 {
             built.pair()?;
-            built.atom(Kind::Agent, number)?;
+            built.atom(Atom::Agent(number))?;
         }
         built.pair()?;
-        built.atom(Kind::Nonce, 1)?;
+        built.atom(Atom::Nonce(1))?;
         check_ends_at_96(&rt, rt.alloc(), built)
     }
 
@@ -205,7 +204,7 @@ mod tests {
         }
         for number in 0..2 {
             built.pair()?;
-            built.atom(Kind::Agent, number)?;
+            built.atom(Atom::Agent(number))?;
         }
         check_ends_at_96(&rt, rt.alloc(), built)
     }

@@ -1,0 +1,4 @@
+mod Parts
+pub mod Sizes
+pub mod Nodes
+pub mod Wholes
