@@ -26,7 +26,6 @@ impl Model for Sheet {
     ghost use Rattle.std.specs.Option.{option_map};
     ghost use Rattle.model.specs.Sheet as model;
     ghost use Rattle.sheet.specs.Kept.{contents_of};
-
     ghost use Rattle.std.specs.Coded.{codes};
     ghost use Rattle.model.specs.Codes.{term_code};
 

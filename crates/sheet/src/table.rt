@@ -16,9 +16,7 @@ use lexer::{Declined, Line, Rule};
 use message::Kind;
 use model::{Field, Node, Ranked, Sealed, Signal, Variable};
 use std::alloc::Global;
-use terms::{
-    Scope, Variables, find, read_signal, read_term, read_value, same_atom, same_signal,
-};
+use terms::{Scope, Variables, find, read_signal, read_term, read_value, same_atom, same_signal};
 
 const MOST_ATOMS: usize = 12;
 

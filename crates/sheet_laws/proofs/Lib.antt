@@ -11,6 +11,7 @@ mod NumberingLines
 mod Numbering
 mod Signalling
 mod Shortening
+mod Messaging
 mod Declaring
 mod ReferencesTerms
 mod ReferencesLines

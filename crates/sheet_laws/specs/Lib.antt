@@ -1,4 +1,5 @@
 pub mod Counts
+pub mod Messages
 pub mod NamesApart
 pub mod Numbering
 pub mod Places

@@ -2,6 +2,7 @@
 #![tactic(auto)]
 
 ghost use Rattle.sheet_laws.specs.Counts.{CountsInRange};
+ghost use Rattle.sheet_laws.specs.Messages.{InstancesAreMessages, StartIsMessages};
 ghost use Rattle.sheet_laws.specs.NamesApart.{NamesAreApart};
 ghost use Rattle.sheet_laws.specs.Numbering.{LinesNumbered};
 ghost use Rattle.sheet_laws.specs.Places.{FaultsWithin};
@@ -47,6 +48,17 @@ pub fn names_refer()
 #[tactic(auto, using(crate::proofs::Shortening::terms_short))]
 pub fn terms_are_short()
     ensures { TermsAreShort }
+{}
+
+// In every instance of a role of a sheet that is read, what its steps send and receive are messages.
+pub fn instances_are_messages()
+    ensures { InstancesAreMessages }
+{}
+
+// What the enemy knows at the start are messages.
+#[tactic(auto, using(crate::proofs::Messaging::start_is_messages))]
+pub fn start_is_messages()
+    ensures { StartIsMessages }
 {}
 
 // The variables of a sheet that is read stand somewhere, and a nonce that is not the session's own is first received.
