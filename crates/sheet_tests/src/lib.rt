@@ -567,6 +567,58 @@ mod tests {
     // What it ends with, after a signal word.
     const LONG_END: &str = " station1\nranks\nback 2 4 6 43 44 49 51\n";
 
+    // The lines of examples/silence.sheet.
+    const SILENCE: [&str; 30] = [
+        "link sheet 1",
+        "agents",
+        "agent G",
+        "agent B",
+        "texts",
+        "text date",
+        "roles",
+        "role bus B",
+        "var t text",
+        "fresh n",
+        "send pair self n",
+        "recv seal self G pair G pair n t",
+        "sig set self G n t",
+        "role ground G",
+        "var j agent",
+        "var c nonce",
+        "var t text",
+        "recv pair j c",
+        "sig told self j c t",
+        "send seal self j pair self pair c t",
+        "nonces",
+        "nonce na B bus n",
+        "known",
+        "claim",
+        "holds set B G na date needs told G B na date",
+        "ranks",
+        "rank 0 key G B",
+        "seal 0 G B pair G pair na date",
+        "mark 0 set B G na date",
+        "back 2 5 7 21 23 24 26",
+    ];
+
+    // The same sheet, and sheets that differ from it in a line or two: the first and last line that are replaced, counted from 1, and what stands there.
+    const NEIGHBOURS: [(usize, usize, &str); 6] = [
+        (0, 0, ""),
+        (
+            19,
+            20,
+            "send seal self j pair self pair c t\nsig told self j c t\n",
+        ),
+        (27, 27, "rank 1 key G B\n"),
+        (29, 29, "mark 1 set B G na date\n"),
+        (28, 28, ""),
+        (
+            24,
+            30,
+            "know key G B\nclaim\nholds set B G na date needs told G B na date\nranks\nrank 0 key G B\nseal 0 G B pair G pair na date\nmark 0 set B G na date\nback 2 5 7 21 23 25 27\n",
+        ),
+    ];
+
     // The rules with their numbers and rows.
     const ROWS: [(Rule, u8, Row); 11] = [
         (Rule::Size, 1, Row::Bytes),
@@ -582,21 +634,30 @@ mod tests {
         (Rule::Back, 11, Row::Sheet),
     ];
 
-    // The first lines of the example, as many as said, with another text in the place of one line and its end.
-    fn damaged(heap: Global, lines: usize, at: usize, with: &str) -> Result<Vec<u8>, Fail> {
+    // These lines, with another text in the place of those from `at` to `to` and their ends.
+    fn replaced(
+        heap: Global,
+        lines: &[&str],
+        at: usize,
+        to: usize,
+        with: &str,
+    ) -> Result<Vec<u8>, Fail> {
         let mut text = Vec::new(heap);
-        for (i, line) in EXAMPLE.iter().enumerate() {
-            if i >= lines {
-                return Ok(text);
-            }
+        for (i, line) in lines.iter().enumerate() {
             if i + 1 == at {
                 text.extend_from_slice(with.as_bytes())?;
-            } else {
+            }
+            if i + 1 < at || to < i + 1 {
                 text.extend_from_slice(line.as_bytes())?;
                 text.push(b'\n')?;
             }
         }
         Ok(text)
+    }
+
+    // The first lines of the example, as many as said, with another text in the place of one line and its end.
+    fn damaged(heap: Global, lines: usize, at: usize, with: &str) -> Result<Vec<u8>, Fail> {
+        replaced(heap, &EXAMPLE[0..lines.min(EXAMPLE.len())], at, at, with)
     }
 
     // The example with another text in the place of one line and its end.
@@ -733,6 +794,15 @@ mod tests {
     fn reads_changed_examples(rt: HostRuntime) -> Result<(), Fail> {
         for (i, (at, with)) in READ.iter().enumerate() {
             let text = changed(rt.alloc(), *at, with)?;
+            assert_eq!(rt; fault_of(rt.alloc(), &text)?, None, "{}", i);
+        }
+        Ok(())
+    }
+
+    #[test]
+    fn reads_the_silence_sheet_and_its_neighbours(rt: HostRuntime) -> Result<(), Fail> {
+        for (i, (at, to, with)) in NEIGHBOURS.iter().enumerate() {
+            let text = replaced(rt.alloc(), &SILENCE, *at, *to, with)?;
             assert_eq!(rt; fault_of(rt.alloc(), &text)?, None, "{}", i);
         }
         Ok(())
