@@ -1,15 +1,12 @@
 -- For each kind of node, what is written from what its parts have written, and why it is declined.
-use Rattle.std.proofs.Common.{◌≡◌, ℕ, ◌+◌, ◌<◌, List, [], ◌∷◌, ◌++◌, length, get_or, Some, None, Option, sym, refl, ap, ◌∙◌, append_assoc, arith, length-append, Bor}
+use Rattle.std.proofs.Common.{◌≡◌, ℕ, List, [], ◌∷◌, ◌++◌, length, Some, None, Option, sym, refl, ap, ◌∙◌, append_assoc, arith, length-append, Bor}
 use mathlib.Core.List.{append_cancel_left, tail-eq_of_cons-eq}
-use Rattle.std.specs.List.{between}
-use Rattle.std.proofs.lemmas.Slice.{first_rest}
 use Rattle.message.specs.Message as messages
 use Rattle.message.specs.Message.{Fits, KeyFits, key_bytes, wire}
 use Rattle.model.specs.declared.node.Field.{Field}
-use Rattle.model.specs.declared.node.Field.TheVariants.{Player}
 use Rattle.model.specs.declared.node.Node.{Node}
 use Rattle.model.specs.declared.node.Node.TheVariants as node
-use Rattle.model.specs.Trees.{leaf, others, prefix, terms, top, tree}
+use Rattle.model.specs.Trees.{others, prefix, terms, top, tree}
 use Rattle.model.specs.Codes.{read_back}
 use Rattle.instances.specs.Substitution.{Values, key_under, message}
 use Rattle.instances.specs.Writing.{Declined, Put, Withheld, Written, Writes, seal_bytes}
@@ -24,29 +21,7 @@ second-tree ns second e = ap (λ ms. top (others (terms ms))) (sym e) ∙ ap (λ
 under-pair : (ns rest : List Node) → prefix (tree (node.Pair ∷ ns)) ++ rest ≡ node.Pair ∷ ns → prefix (tree ns) ++ (prefix (top (others (terms ns))) ++ rest) ≡ ns
 under-pair ns rest e = sym (append_assoc (prefix (tree ns)) _ rest) ∙ tail-eq_of_cons-eq e
 
--- the nodes, with the first of them known
-pub opened : (ns : List Node) (x : Node) → get_or ns 0 (node.Leaf Player) ≡ x → 0 < length ns → ns ≡ x ∷ between 1 (length ns) ns
-opened ns x is h = first_rest ns _ h ∙ ap (λ y. y ∷ between 1 (length ns) ns) is
-
--- the first term after a node leaves fewer nodes than there were
-pub fewer_left : {x : Node} {ns rest left : List Node} {v : Values} {before after : List ℕ} → ns ≡ x ∷ rest → Written v rest before after left → length left < length ns
-fewer_left first w = omega (arith, ap length first, simp length-append at (ap length w.nodes))
-
--- no term stands at the end
-pub end_declined : (v : Values) (ns : List Node) (before : List ℕ) → length ns < 1 → Declined v ns before
-end_declined v [] before h rest m e is = absurd (omega (arith, ap length e))
-end_declined v (x ∷ ns) before h rest m e is = absurd (omega arith)
-
 module _ (v : Values) (ns : List Node) (before : List ℕ) where
-  module _ (f : Field) (rest : List Node) (first : ns ≡ node.Leaf f ∷ rest) where
-    -- an atom is written
-    pub atom_written : {after : List ℕ} → Put Fits wire (message v (leaf f)) before after → Written v ns before after rest
-    atom_written (m, is, fits, bytes) = rw first (record { msg = m; nodes = refl; is = is; fits = fits; bytes = bytes })
-
-    -- an atom is declined
-    pub atom_declined : Withheld wire (message v (leaf f)) before → Declined v ns before
-    atom_declined withheld = rw first (λ _ m _ is. withheld m is)
-
   module _ (f g : Field) (rest : List Node) (first : ns ≡ node.Key f g ∷ rest) where
     -- a key is written
     pub key_written : {after : List ℕ} → Put KeyFits key_bytes (key_under v f g) before after → Written v ns before after rest
@@ -85,43 +60,29 @@ module _ (v : Values) (ns : List Node) (before : List ℕ) where
           bytes = content.bytes ∙ ap (λ x. x ++ wire content.msg) bytes ∙ append_assoc before (seal_bytes k) (wire content.msg);
         })
 
-  module _ (rest : List Node) (first : ns ≡ node.Pair ∷ rest) where
-    -- a pair is declined before its two terms
-    pub pair_front_declined : 96 < length before + 1 → Declined v ns before
-    pair_front_declined long =
+  module _ (rest : List Node) (first : ns ≡ node.Pair ∷ rest) (front : List ℕ) (front-is : front ≡ before ++ (80 ∷ [])) where
+    -- a pair is written if both its terms are, and else declined
+    pub pair_writes : {middle : List ℕ} {second : List Node} (after : List ℕ) (r : Option (Bor (List Node))) → Written v rest front middle second → Writes v second middle after r → Writes v ns before after r
+    pair_writes {middle} {second} after None one declined =
         rw
         first
-        (λ _ m _ e. let (x, y, _, _, pair_is) = of-both (message v (tree rest)) (message v (top (others (terms rest)))) e in rw pair_is (omega arith))
+        (λ left m e e'.
+        let (x, y, x-is, y-is, pair_is) = of-both (message v (tree rest)) (message v (top (others (terms rest)))) e' in
+        let then = second-tree rest second one.nodes in
+        let same : x ≡ one.msg = cc in
+        let nodes : prefix (tree second) ++ left ≡ second = append_cancel_left (prefix (tree rest)) _ _ (ap (λ t. prefix (tree rest) ++ (prefix t ++ left)) (sym then) ∙ under-pair rest left e ∙ sym one.nodes) in
+        rw pair_is (omega (arith, declined left y nodes (ap (message v) (sym then) ∙ y-is), ap length one.bytes, ap length front-is, length-append front (wire one.msg), length-append before (80 ∷ []), length-append (wire x) (wire y), ap (λ z. length (wire z)) same)))
+    pair_writes {middle} {second} after (Some left) one two =
+        let then = second-tree rest second one.nodes in
+        rw
+        first
+        (record {
+          msg = messages.pair one.msg two.msg;
+          nodes = ap (λ t. node.Pair ∷ (prefix (tree rest) ++ prefix t) ++ left.now) then ∙ ap (λ ms. node.Pair ∷ ms) (append_assoc (prefix (tree rest)) (prefix (tree second)) left.now ∙ ap (λ ms. prefix (tree rest) ++ ms) two.nodes ∙ one.nodes);
+          is = rw (then, one.is, two.is);
+          fits = (one.fits, two.fits);
+          bytes = two.bytes ∙ simp (one.bytes, front-is, append_assoc);
+        })
 
-    module _ (front : List ℕ) (front-is : front ≡ before ++ (80 ∷ [])) where
-      -- a pair is declined if its first term is
-      pub first_declined : Declined v rest front → Declined v ns before
-      first_declined declined =
-          rw
-          first
-          (λ left m e e'.
-          let (x, y, x-is, _, pair_is) = of-both (message v (tree rest)) (message v (top (others (terms rest)))) e' in
-          rw pair_is (omega (arith, declined _ x (under-pair rest left e) x-is, ap length front-is, length-append before (80 ∷ []), length-append (wire x) (wire y))))
-
-      -- a pair is written if both its terms are, and else declined
-      pub pair_writes : {middle : List ℕ} {second : List Node} (after : List ℕ) (r : Option (Bor (List Node))) → Written v rest front middle second → Writes v second middle after r → Writes v ns before after r
-      pair_writes {middle} {second} after None one declined =
-          rw
-          first
-          (λ left m e e'.
-          let (x, y, x-is, y-is, pair_is) = of-both (message v (tree rest)) (message v (top (others (terms rest)))) e' in
-          let then = second-tree rest second one.nodes in
-          let same : x ≡ one.msg = cc in
-          let nodes : prefix (tree second) ++ left ≡ second = append_cancel_left (prefix (tree rest)) _ _ (ap (λ t. prefix (tree rest) ++ (prefix t ++ left)) (sym then) ∙ under-pair rest left e ∙ sym one.nodes) in
-          rw pair_is (omega (arith, declined left y nodes (ap (message v) (sym then) ∙ y-is), ap length one.bytes, ap length front-is, length-append front (wire one.msg), length-append before (80 ∷ []), length-append (wire x) (wire y), ap (λ z. length (wire z)) same)))
-      pair_writes {middle} {second} after (Some left) one two =
-          let then = second-tree rest second one.nodes in
-          rw
-          first
-          (record {
-            msg = messages.pair one.msg two.msg;
-            nodes = ap (λ t. node.Pair ∷ (prefix (tree rest) ++ prefix t) ++ left.now) then ∙ ap (λ ms. node.Pair ∷ ms) (append_assoc (prefix (tree rest)) (prefix (tree second)) left.now ∙ ap (λ ms. prefix (tree rest) ++ ms) two.nodes ∙ one.nodes);
-            is = rw (then, one.is, two.is);
-            fits = (one.fits, two.fits);
-            bytes = two.bytes ∙ simp (one.bytes, front-is, append_assoc);
-          })
+-- what is written, or declined, where a key, a seal or a pair stands first
+pub ruleset node_writes = (key_declined, key_written, seal_front_declined, seal_writes, pair_writes)

@@ -15,7 +15,7 @@ values_of v = record { player = v.player; variables = v.variables.now }
 -- The bytes of the message that the term is; none where it is none. It never passes 96 bytes.
 abbrev pub Substitutes : substitution.Values → Term → Option (List ℕ) → Type 0
 Substitutes v t None = message v t ≡ None
-Substitutes v t (Some buffer) = (m : Msg) × (message v t ≡ Some m) × Reads buffer m
+Substitutes v t (Some bytes) = (m : Msg) × (message v t ≡ Some m) × Reads bytes m
 
 -- the bytes of a seal under a key as far as its content
 abbrev pub seal_bytes : Key → List ℕ

@@ -85,7 +85,7 @@ fn write_seal(values: &Values, first: Field, second: Field, out: &mut Message) -
 }
 
 // Writes the first of the terms that the nodes are, and answers the nodes after it. It calls itself for what stands under a pair or a seal, which in a term is little.
-#[tactic(auto, using(crate::proofs::Nodes::key_declined, crate::proofs::Nodes::key_written, crate::proofs::Nodes::seal_front_declined, crate::proofs::Nodes::seal_writes, crate::proofs::Nodes::pair_writes))]
+#[tactic(auto, using(crate::proofs::Nodes::node_writes))]
 fn write<'a>(values: &Values, nodes: &'a [Node], out: &mut Message) -> Option<&'a [Node]>
     ensures { Writes (values_of values.now) nodes.now out.old out.new result }
 {
