@@ -1,4 +1,5 @@
-mod Parts
+pub mod Parts
 pub mod Sizes
 pub mod Nodes
 pub mod Wholes
+pub mod Fronts

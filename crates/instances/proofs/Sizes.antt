@@ -38,3 +38,14 @@ three-each v (seal f g t) m e =
 -- 32 words make at most 96 bytes
 pub substitution_is_short : SubstitutionIsShort
 substitution_is_short v t m few e = omega (arith, three-each v t m e)
+
+-- a message has at most two bytes for each word of its term, and one more
+pub two-each : (v : Values) (t : Term) (m : Msg) → message v t ≡ Some m → length (wire m) ≤ 2 * word_count (prefix t) + 1
+two-each v (leaf f) m e = let (a, _, is) = of_one (value v f) e in rw is (omega (arith, atom-short a))
+two-each v (pair l r) m e =
+    let (x, y, left, right, is) = of-both (message v l) (message v r) e in
+    rw is (omega (arith, two-each v l x left, two-each v r y right, length-append (wire x) (wire y), words_append (prefix l) (prefix r)))
+two-each v (key f g) m e = let (k, _, is) = of_one (key_under v f g) e in rw is (omega (arith, key-bytes k))
+two-each v (seal f g t) m e =
+    let (k, x, _, content, is) = of-both (key_under v f g) (message v t) e in
+    rw is (omega (arith, two-each v t x content, length-append (key_bytes k) (wire x), key-bytes k))

@@ -10,7 +10,7 @@ use Rattle.instances.specs.Writing.{Declined, Written}
 use Rattle.instances.proofs.Sizes.{substitution_is_short}
 
 -- what is nothing else is none
-is_none : {X : Type 0} (o : Option X) → ((x : X) → o ≡ Some x → ⊥) → o ≡ None
+pub is_none : {X : Type 0} (o : Option X) → ((x : X) → o ≡ Some x → ⊥) → o ≡ None
 is_none None not = refl
 is_none (Some x) not = absurd (not x refl)
 

@@ -6,11 +6,11 @@ ghost use Rattle.instances.specs.Laws.{SubstitutionIsShort};
 ghost use Rattle.instances.specs.Substitution.{agent_number, atom_at, key_under, message, value};
 ghost use Rattle.instances.specs.Writing.{Owners, Puts, Substitutes, Writes, seal_bytes, values_of};
 ghost use Rattle.message.specs.Message.{Fits, KeyFits, key_bytes, wire};
-ghost use Rattle.model.specs.Stored.{term_of};
-ghost use Rattle.model.specs.Trees.{leaf};
+ghost use Rattle.model.specs.Stored.{sealed_of, term_of};
+ghost use Rattle.model.specs.Trees.{key, leaf};
 
 use message::{Atom, Kind, Message};
-use model::{Field, Node, Term};
+use model::{Field, Node, Sealed, Term};
 
 // The agent that plays the role, and what each variable stands for; none where nothing does.
 #[derive(Clone, Copy)]
@@ -20,7 +20,7 @@ pub struct Values<'a> {
 }
 
 // The atom of a kind and number, if the kind has one of that number.
-fn atom_at(kind: Kind, number: usize) -> Option<Atom>
+pub fn atom_at(kind: Kind, number: usize) -> Option<Atom>
     ensures { result ≡ atom_at kind number }
 {
     match kind {
@@ -118,6 +118,27 @@ pub fn substitute(term: &Term, values: &Values) -> Option<Message>
 {
     let mut out = Message::new();
     write(values, term.nodes(), &mut out)?;
+    Some(out)
+}
+
+// The key of the agents that two fields stand for, if they do.
+#[tactic(auto, using(crate::proofs::Fronts::key_none, crate::proofs::Fronts::key_whole))]
+pub fn substitute_key(first: Field, second: Field, values: &Values) -> Option<Message>
+    ensures { Substitutes (values_of values.now) (key first second) result }
+{
+    let mut out = Message::new();
+    write_key(values, first, second, &mut out)?;
+    Some(out)
+}
+
+// The seal that a line of the ranks is under these values, if it is one.
+#[tactic(auto, using(crate::proofs::Fronts::seal_front_none, crate::proofs::Fronts::seal_none, crate::proofs::Fronts::seal_whole))]
+pub fn substitute_seal(seal: &Sealed, values: &Values) -> Option<Message>
+    ensures { Substitutes (values_of values.now) (sealed_of seal.now) result }
+{
+    let mut out = Message::new();
+    write_seal(values, seal.first, seal.second, &mut out)?;
+    write(values, seal.content.nodes(), &mut out)?;
     Some(out)
 }
 

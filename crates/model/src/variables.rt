@@ -1,10 +1,10 @@
 // Where a variable of a role stands, and whether it is received.
 ghost use Rattle.std.specs.Prelude.{◌≡◌};
-ghost use Rattle.model.specs.Stored.{role_of, step_of, term_of};
+ghost use Rattle.model.specs.Stored.{role_of, sealed_of, step_of, term_of};
 ghost use Rattle.model.specs.Variables.{received, receives, stands_among, stands_at, stands_at_some, stands_in, stands_in_step};
 
 use super::node::{Field, Node};
-use super::stored::{Role, Step};
+use super::stored::{Role, Sealed, Step};
 use super::term::Term;
 
 // Whether the variable is an atom of this one node.
@@ -45,6 +45,16 @@ fn stands_in_step(step: &Step, variable: usize) -> bool
     match step {
         Step::Send(term) | Step::Receive(term) => stands_in(term, variable),
         Step::Signal(signal) => stands_among(&signal.fields, variable),
+    }
+}
+
+impl Sealed {
+    // Whether the variable stands in it.
+    pub fn has_variable(&self, variable: usize) -> bool
+        ensures { result ≡ stands_in variable (sealed_of self.now) }
+    {
+        let atom = Field::Variable(variable);
+        self.first == atom || self.second == atom || stands_in(&self.content, variable)
     }
 }
 

@@ -1,38 +1,10 @@
--- What the code's draft of a sheet stands for.
-use Rattle.std.specs.Prelude.{◌≡◌, Bool, true, false, Ok, Err, map, vec_items, Result}
-use Rattle.lexer.specs.declared.Declined.{Declined}
-use Rattle.lexer.specs.declared.Declined.TheVariants as declined
-use Rattle.lexer.specs.declared.Rule.TheVariants as rule
-use Rattle.lexer.specs.Text.{WordAt}
-use Rattle.model.specs.declared.name.Name.{Name}
-use Rattle.sheet.specs.declared.cast.Cast.{Cast}
-use Rattle.sheet.specs.declared.cast.Title.{Title}
-use Rattle.std.specs.Option.{option_map}
-use Rattle.sheet.specs.declared.draft.Draft.{Draft}
-use Rattle.sheet.specs.declared.script.Script.{Script}
+-- What the code's sheet stands for.
+use Rattle.std.specs.Prelude.{map}
 use Rattle.sheet.specs.declared.contents.Contents.{Contents}
-use Rattle.sheet.specs.declared.table.Table.{Table}
 use Rattle.model.specs.Sheet as model
-use Rattle.sheet.specs.Drafts as drafts
 use Rattle.sheet.specs.Sheets.{atom_of}
 use Rattle.model.specs.Names.{letters}
-use Rattle.terms.specs.Usages.{declared_of}
-use Rattle.model.specs.Stored.{agent_of, claim_of, items, nonce_of, ranked_of, role_of, sealed_of, signal_of, step_of, term_of, variable_of}
-
-abbrev pub title_of : Title → drafts.Title
-title_of t = record { name = letters t.name; player = t.player }
-
-unfoldable pub cast_of : Cast → drafts.Cast
-cast_of c = record { agents = items agent_of c.agents; texts = items letters c.texts; roles = items role_of c.roles; nonces = items nonce_of c.nonces }
-
-unfoldable pub script_of : Script → drafts.Script
-script_of s = record { title = title_of s.title; variables = (declared_of s.variables).variables; usages = (declared_of s.variables).usages; steps = items step_of s.steps }
-
-unfoldable pub table_of : Table → drafts.Table
-table_of t = record { free = (declared_of t.free).variables; usages = (declared_of t.free).usages; atoms = items (ranked_of (λ n. n)) t.atoms; seals = items (ranked_of sealed_of) t.seals; marks = items (ranked_of signal_of) t.marks }
-
-abbrev pub draft_of : Draft → drafts.Draft
-draft_of d = record { part = d.part; sections = vec_items d.sections; cast = cast_of d.cast; script = script_of d.script; known = items term_of d.known; claim = option_map claim_of d.claim; table = table_of d.table }
+use Rattle.model.specs.Stored.{agent_of, claim_of, items, nonce_of, ranked_of, role_of, sealed_of, signal_of, term_of, variable_of}
 
 abbrev pub contents_of : Contents → model.Sheet
 contents_of c = record {
@@ -47,8 +19,3 @@ contents_of c = record {
   seals = items (ranked_of sealed_of) c.seals;
   marks = items (ranked_of signal_of) c.marks;
 }
-
--- a word that has to be a new name gives that name, or the fault
-abbrev pub Names : Bool → WordAt → Result Name Declined → Type 0
-Names new w (Ok n) = (new ≡ true) × (letters n ≡ w.text)
-Names new w (Err e) = (new ≡ false) × (e ≡ declined.Fault (record { rule = rule.NewName; place = w.place }))

@@ -1,5 +1,3 @@
-pub mod Drafts
-pub mod Reading
-pub mod Kept
-pub mod Sections
 pub mod Sheets
+pub mod Kept
+pub mod Codes

@@ -7,11 +7,11 @@ use Rattle.model.specs.declared.node.Node.{Node}
 use Rattle.model.specs.Sheet as model
 use Rattle.model.specs.Trees.{Term, tree}
 use Rattle.terms.specs.Terms.{and_then, fault}
-use Rattle.sheet.specs.declared.draft.Part.{Part}
-use Rattle.sheet.specs.declared.draft.Part.TheVariants as part
-use Rattle.sheet.specs.Drafts.{Draft}
-use Rattle.sheet.specs.Reading.{unless}
-use Rattle.sheet.specs.Sections.{blank, lines_from}
+use Rattle.draft.specs.declared.draft.Part.{Part}
+use Rattle.draft.specs.declared.draft.Part.TheVariants as part
+use Rattle.draft.specs.Drafts.{Draft}
+use Rattle.draft.specs.Reading.{unless}
+use Rattle.draft.specs.Sections.{blank, lines_from}
 
 abbrev pub at_end : Part → Bool
 at_end part.Start = false

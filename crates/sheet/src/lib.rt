@@ -1,12 +1,9 @@
 // The link sheet and its exact reader.
 #![tactic(auto)]
 
-mod cast;
 mod contents;
-mod draft;
-mod script;
+mod line_numbers;
 mod sheet;
-mod table;
 
 pub use contents::Contents;
 pub use sheet::Sheet;

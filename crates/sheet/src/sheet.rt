@@ -1,23 +1,33 @@
 // The sheet: unread and empty, or as it was read.
-ghost use Rattle.std.specs.Prelude.{◌≡◌, None};
+ghost use Rattle.std.specs.Prelude.{◌≡◌, ℕ, List, None, Ok, MatchOption};
 ghost use Rattle.lexer.specs.Text.{lines_of};
-ghost use Rattle.sheet.specs.Kept.{contents_of, draft_of};
+ghost use Rattle.draft.specs.Kept.{draft_of};
+ghost use Rattle.sheet.specs.Kept.{contents_of};
 ghost use Rattle.terms.specs.Outcomes.{Reads, Sheeted};
-ghost use Rattle.sheet.specs.Sections.{blank, lines_from};
+ghost use Rattle.draft.specs.Sections.{blank, lines_from};
+ghost use Rattle.sheet.specs.Codes.{read_once};
 ghost use Rattle.sheet.specs.Sheets.{finished, reading};
 ghost use Rattle.std.specs.Option.{option_map};
 
 use super::contents::Contents;
-use super::draft::{Draft, Part};
+use draft::{Draft, Part};
 use lexer::{Declined, Line, Rule, read_lines};
 use std::alloc::Global;
 use std::marker::Model;
+
+// What a text says. The text is kept beside it, so that the type itself says that whatever is kept was read.
+#[derive(Drop)]
+struct Reading {
+    text: Vec<u8>,
+    contents: Contents,
+    ghost is_read: { reading text.items ≡ Ok (contents_of contents) } by { read_once text.items (contents_of contents) },
+}
 
 // A link sheet.
 #[derive(Drop)]
 pub struct Sheet {
     heap: Global,
-    contents: Option<Contents>,
+    reading: Option<Reading>,
 }
 
 // Clauses see the sheet that was read, if one was.
@@ -33,7 +43,7 @@ impl Model for Sheet {
 
     ghost coded = { Prim.hlevel (codes, term_code) };
 
-    ghost view = { λ s. option_map contents_of s.contents };
+    ghost view = { λ s. option_map (λ r. contents_of r.contents) s.reading };
 }
 
 // The draft that the lines make, from the first on.
@@ -48,7 +58,7 @@ fn read_draft(heap: Global, lines: &[Line]) -> Result<Draft, Declined>
 }
 
 // What a whole text says; it ends at `end`.
-#[tactic(auto, unfolding(crate::specs::Kept::cast_of, crate::specs::Kept::table_of))]
+#[tactic(auto, unfolding(draft::specs::Kept::cast_of, draft::specs::Kept::table_of))]
 fn finish(draft: Draft, end: usize) -> Result<Contents, Declined>
     ensures { Reads contents_of (finished end (draft_of draft) (draft_of draft).claim) result }
 {
@@ -94,7 +104,7 @@ impl Sheet {
     {
         Sheet {
             heap,
-            contents: None,
+            reading: None,
         }
     }
 
@@ -102,16 +112,22 @@ impl Sheet {
     pub fn read(&mut self, text: &[u8]) -> Result<(), Declined>
         ensures { Sheeted (reading text.now) self.new result }
     {
-        self.contents = None;
+        self.reading = None;
         let contents = read_contents(self.heap, text)?;
-        self.contents = Some(contents);
+        let mut kept = Vec::new(self.heap);
+        kept.extend_from_slice(text)?;
+        self.reading = Some(Reading {
+            text: kept,
+            contents,
+        });
         Ok(())
     }
 
     // What the sheet says, if it was read.
     pub fn contents(&self) -> Option<&Contents>
-        ensures { option_map (λ c. contents_of c.now) result ≡ self.now }
+        ensures contents { option_map (λ c. contents_of c.now) result ≡ self.now }
+        ensures read { MatchOption result (Unit {0}) (λ c. (text : List ℕ) × (reading text ≡ Ok (contents_of c.now))) }
     {
-        self.contents.as_ref()
+        self.reading.as_ref().map(|reading| &reading.contents)
     }
 }

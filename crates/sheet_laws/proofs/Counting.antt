@@ -6,8 +6,8 @@ use Rattle.std.proofs.lemmas.Bool.{ltb-true}
 use Rattle.std.proofs.lemmas.Bool.Decides.{nat_tests}
 use Rattle.std.specs.List.{AllByRecursion}
 use Rattle.lexer.specs.Text.{LineAt}
-use Rattle.sheet.specs.Drafts.{Draft}
-use Rattle.sheet.specs.Sections.{blank, role_read}
+use Rattle.draft.specs.Drafts.{Draft}
+use Rattle.draft.specs.Sections.{blank, role_read}
 use Rattle.sheet.specs.Sheets.{atom_of}
 use Rattle.sheet_laws.specs.Counts.{CountsInRange, ScriptCounted}
 use Rattle.sheet_laws.proofs.Steps as steps

@@ -1,9 +1,9 @@
 -- A role's variables are declared before its steps, and the free variables before the `seal` lines.
 use Rattle.std.proofs.Common.{◌≡◌, ℕ, ◌≤◌, ◌⊎◌, [], inl, arith}
 use Rattle.lexer.specs.Text.{LineAt}
-use Rattle.sheet.specs.declared.draft.Part.TheVariants as part
-use Rattle.sheet.specs.Drafts.{Draft}
-use Rattle.sheet.specs.Sections.{blank}
+use Rattle.draft.specs.declared.draft.Part.TheVariants as part
+use Rattle.draft.specs.Drafts.{Draft}
+use Rattle.draft.specs.Sections.{blank}
 use Rattle.sheet_laws.proofs.Stages.{stage, role-stage, ranks-stage}
 use Rattle.sheet_laws.proofs.Steps as steps
 use Rattle.sheet_laws.proofs.Steps.{ReadsOn}

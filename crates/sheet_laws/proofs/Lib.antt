@@ -4,18 +4,18 @@ pub mod Stages
 mod Finding
 mod Lines
 mod Readings
-mod Counting
+pub mod Counting
 mod Adding
 mod Naming
 mod NumberingLines
 mod Numbering
 mod Signalling
-mod Shortening
-mod Messaging
+pub mod Shortening
+pub mod Messaging
 mod Declaring
 mod ReferencesTerms
 mod ReferencesLines
-mod References
+pub mod References
 mod VariablesUsedWords
 mod VariablesUsedNotes
 mod VariablesUsedLines
@@ -25,3 +25,4 @@ mod PlacesLexed
 mod PlacesTerms
 mod PlacesUsages
 mod Places
+pub mod Claiming

@@ -4,8 +4,8 @@ use Rattle.std.proofs.lemmas.Bool.{ltb-true}
 use Rattle.std.proofs.lemmas.Bool.Decides.{nat_tests}
 use Rattle.lexer.specs.declared.Fault.{Fault}
 use Rattle.lexer.specs.Text.{LineAt, WordAt}
-use Rattle.sheet.specs.Drafts.{Cast, Draft, Table, Title, new_free, new_name, new_variable}
-use Rattle.sheet.specs.Reading.{agent_line, free_line, know_line, mark_line, nonce_line, rank_line, rank_shape, seal_line, text_line, title_line}
+use Rattle.draft.specs.Drafts.{Cast, Draft, Table, Title, new_free, new_name, new_variable}
+use Rattle.draft.specs.Reading.{agent_line, free_line, know_line, mark_line, nonce_line, rank_line, rank_shape, seal_line, text_line, title_line}
 use Rattle.model.specs.Sheet as model
 use Rattle.model.specs.declared.node.Node.{Node}
 use Rattle.model.specs.Trees.{Term}

@@ -6,8 +6,8 @@ use Rattle.std.proofs.lemmas.Bool.{or_from, or_parts}
 use Rattle.std.specs.List.{AllByRecursion}
 use Rattle.std.specs.Str.{bytes_eq}
 use Rattle.lexer.specs.Text.{LineAt}
-use Rattle.sheet.specs.Drafts.{Cast, Draft, Script, Table, Title, new_free, new_name, new_variable, taken, variable_above}
-use Rattle.sheet.specs.Sections.{blank, more_agent, more_nonce, more_role, more_text, more_variable, new_script, role_read}
+use Rattle.draft.specs.Drafts.{Cast, Draft, Script, Table, Title, new_free, new_name, new_variable, taken, variable_above}
+use Rattle.draft.specs.Sections.{blank, more_agent, more_nonce, more_role, more_text, more_variable, new_script, role_read}
 use Rattle.model.specs.Names.{is_name}
 use Rattle.model.specs.Sheet as model
 use Rattle.terms.specs.Terms.{agent_names, has, nonce_names, role_names, variable_names}

@@ -3,11 +3,11 @@ use Rattle.std.proofs.Common.{◌≡◌, ℕ, ◌+◌, ◌<◌, ◌≤◌, List,
 use lib.ListN.{length-map}
 use Rattle.std.proofs.lemmas.Bool.Decides.{nat_tests}
 use Rattle.lexer.specs.Text.{LineAt}
-use Rattle.sheet.specs.declared.draft.Part.{Part}
-use Rattle.sheet.specs.declared.draft.Part.TheVariants as part
-use Rattle.sheet.specs.Drafts.{Cast, Draft, Script}
-use Rattle.sheet.specs.Reading as reading
-use Rattle.sheet.specs.Sections.{blank, opened, role_read}
+use Rattle.draft.specs.declared.draft.Part.{Part}
+use Rattle.draft.specs.declared.draft.Part.TheVariants as part
+use Rattle.draft.specs.Drafts.{Cast, Draft, Script}
+use Rattle.draft.specs.Reading as reading
+use Rattle.draft.specs.Sections.{blank, opened, role_read}
 use Rattle.sheet.specs.Sheets.{atom_of, sheet_from}
 use Rattle.model.specs.LineNumbers.{back_line, know_line, rank_line, role_lines, seal_line, section_lines}
 use Rattle.model.specs.Sheet as model

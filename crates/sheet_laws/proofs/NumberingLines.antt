@@ -7,8 +7,8 @@ use Rattle.std.proofs.lemmas.Bool.Decides.{nat_tests}
 use Rattle.std.specs.List.{slice_get}
 use Rattle.std.specs.Str.{bytes_eq}
 use Rattle.lexer.specs.Text.{LineAt, is, is_only, word_at}
-use Rattle.sheet.specs.Drafts.{Draft}
-use Rattle.sheet.specs.Reading.{back_line, says_all}
+use Rattle.draft.specs.Drafts.{Draft}
+use Rattle.draft.specs.Reading.{back_line, says_all}
 use Rattle.terms.specs.Usages.{check_usages}
 use Rattle.sheet_laws.specs.Numbering.{LineIs, LinesAre, LinesBegin, SaysBack}
 use Rattle.sheet_laws.proofs.Passing.{Gives, next, passed, value}

@@ -7,10 +7,10 @@ use Rattle.std.specs.List.{AllByRecursion}
 use Rattle.lexer.specs.Text.{LineAt, word_at}
 use Rattle.model.specs.Sheet.{Claim}
 use Rattle.terms.specs.Terms.{and_then}
-use Rattle.sheet.specs.declared.draft.Part.{Part}
-use Rattle.sheet.specs.declared.draft.Part.TheVariants as part
-use Rattle.sheet.specs.Drafts.{Draft}
-use Rattle.sheet.specs.Sections.{closed, in_part, lines_from, opened, role_line}
+use Rattle.draft.specs.declared.draft.Part.{Part}
+use Rattle.draft.specs.declared.draft.Part.TheVariants as part
+use Rattle.draft.specs.Drafts.{Draft}
+use Rattle.draft.specs.Sections.{closed, in_part, lines_from, opened, role_line}
 use Rattle.sheet.specs.Sheets.{finished}
 use Rattle.sheet_laws.specs.Places.{FaultsWithin}
 use Rattle.sheet_laws.proofs.PlacesLexed.{LineWithin, WordWithin, lexed-within}

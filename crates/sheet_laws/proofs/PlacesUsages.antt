@@ -9,7 +9,7 @@ use Rattle.terms.specs.declared.usages.First.{First}
 use Rattle.terms.specs.declared.usages.Usage.{Usage}
 use Rattle.model.specs.Sheet.{Variable}
 use Rattle.terms.specs.Usages.{check_first, check_usages, first_at, note_all, place_of, still_first}
-use Rattle.sheet.specs.Sections.{unused}
+use Rattle.draft.specs.Sections.{unused}
 use Rattle.sheet_laws.proofs.PlacesLexed.{WordWithin}
 use Rattle.sheet_laws.proofs.PlacesWithin.{Any, Within, faults, gives, readings}
 

@@ -13,8 +13,8 @@ use Rattle.model.proofs.Trees.{prefix_tree}
 use Rattle.terms.specs.Same.{same_signal}
 use Rattle.terms.specs.Terms.{Scope, fields_from, first_agent, read_nodes, read_signal, read_term, second_agent, value_of}
 use Rattle.terms.proofs.TermShape.{shaped}
-use Rattle.sheet.specs.Drafts.{Cast, Draft, Script, Table, free_scope, named_scope, script_scope}
-use Rattle.sheet.specs.Reading.{claim_line, claim_shape, few_atoms, mark_line, needs_at, recv_line, seal_line, send_line, sig_line, signal_ranked, term_line}
+use Rattle.draft.specs.Drafts.{Cast, Draft, Script, Table, free_scope, named_scope, script_scope}
+use Rattle.draft.specs.Reading.{claim_line, claim_shape, few_atoms, mark_line, needs_at, recv_line, seal_line, send_line, sig_line, signal_ranked, term_line}
 use Rattle.sheet_laws.proofs.Finding.{found_below}
 use Rattle.sheet_laws.proofs.Passing.{Gives, found, given, if-read, next, passed, value}
 use Rattle.sheet_laws.proofs.Steps as steps

@@ -5,8 +5,8 @@ use Rattle.std.specs.List.{AllByRecursion}
 use Rattle.lexer.specs.Text.{LineAt}
 use Rattle.model.specs.Sheet.{Agent, Claim, Nonce, Role, Sheet, Variable}
 use Rattle.model.specs.Trees.{tree}
-use Rattle.sheet.specs.Drafts.{Cast, Draft, Title}
-use Rattle.sheet.specs.Sections.{blank, more_agent, more_nonce, more_role, more_text, more_variable, new_script, no_title, role_read}
+use Rattle.draft.specs.Drafts.{Cast, Draft, Title}
+use Rattle.draft.specs.Sections.{blank, more_agent, more_nonce, more_role, more_text, more_variable, new_script, no_title, role_read}
 use Rattle.sheet.specs.Sheets.{atom_of, sheet_from}
 use Rattle.sheet_laws.specs.References.{AtomRefers, NamesRefer, NonceRefers, PlayerRefers, RoleRefers, SealRefers, SignalRefers, StepRefers, TermRefers, by_name, in_role}
 use Rattle.sheet_laws.proofs.Declaring as declaring

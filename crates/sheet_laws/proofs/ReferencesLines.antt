@@ -12,9 +12,9 @@ use Rattle.model.specs.Sheet as model
 use Rattle.model.specs.Sheet.{honest, may_play}
 use Rattle.model.specs.Trees.{Term, leaf, tree}
 use Rattle.terms.specs.Terms.{agent_names, field_of, first_agent, passing, value_of}
-use Rattle.sheet.specs.Drafts.{Cast, Draft, free_scope, named_scope, new_name, script_scope}
-use Rattle.sheet.specs.Reading.{atom_ranked, fresh_in, fresh_variable, know_line, nonce_line, numbered, playable, player_of, plays, rank_line, rank_shape, ranked_atom, title_line}
-use Rattle.sheet.specs.Sections.{role_read}
+use Rattle.draft.specs.Drafts.{Cast, Draft, free_scope, named_scope, new_name, script_scope}
+use Rattle.draft.specs.Reading.{atom_ranked, fresh_in, fresh_variable, know_line, nonce_line, numbered, playable, player_of, plays, rank_line, rank_shape, ranked_atom, title_line}
+use Rattle.draft.specs.Sections.{role_read}
 use Rattle.sheet_laws.specs.References.{AtomRefers, NonceRefers, PlayerRefers, Refers, SealRefers, SignalRefers, StepRefers, TermRefers, agents, by_name, in_role, in_seals, nonce, sealed, text}
 use Rattle.sheet_laws.proofs.Finding.{Kept, found_among, kept-all, kept-length}
 use Rattle.sheet_laws.proofs.Passing.{Gives, either, found, given, has-it, if-passing, next, passed, value}

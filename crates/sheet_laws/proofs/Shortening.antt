@@ -8,9 +8,9 @@ use Rattle.model.specs.Sheet.{Step}
 use Rattle.model.specs.Trees.{Term, are_terms, prefix, word_count}
 use Rattle.terms.specs.Terms.{Scope, read_term}
 use Rattle.terms.proofs.TermShape.{shaped}
-use Rattle.sheet.specs.Drafts.{Cast, Draft, Script, Table, free_scope, named_scope, script_scope}
-use Rattle.sheet.specs.Reading.{know_line}
-use Rattle.sheet.specs.Sections.{blank, role_read}
+use Rattle.draft.specs.Drafts.{Cast, Draft, Script, Table, free_scope, named_scope, script_scope}
+use Rattle.draft.specs.Reading.{know_line}
+use Rattle.draft.specs.Sections.{blank, role_read}
 use Rattle.sheet_laws.specs.TermsShort.{Short, ShortSeal, ShortStep, TermsAreShort, content}
 use Rattle.sheet_laws.proofs.Passing.{Gives, given, passed, so}
 use Rattle.sheet_laws.proofs.Readings.{SealRead, StepRead, nodes-read, received, seal-read, sealed, sent, signalled, step-read}

@@ -4,8 +4,8 @@ use Rattle.std.proofs.ByRecursion.{All-push}
 use Rattle.std.proofs.lemmas.Bool.Decides.{nat_tests}
 use Rattle.std.specs.List.{AllByRecursion}
 use Rattle.lexer.specs.Text.{LineAt, WordAt}
-use Rattle.sheet.specs.Drafts.{Cast, Draft, Script}
-use Rattle.sheet.specs.Sections.{blank, role_read}
+use Rattle.draft.specs.Drafts.{Cast, Draft, Script}
+use Rattle.draft.specs.Sections.{blank, role_read}
 use Rattle.model.specs.Sheet as model
 use Rattle.terms.specs.Terms.{Scope, fields_from}
 use Rattle.model.specs.declared.node.Field.{Field}

@@ -1,7 +1,7 @@
 -- How far a sheet has come.
 use Rattle.std.proofs.Common.{◌≡◌, ℕ, arith}
-use Rattle.sheet.specs.declared.draft.Part.{Part}
-use Rattle.sheet.specs.declared.draft.Part.TheVariants as part
+use Rattle.draft.specs.declared.draft.Part.{Part}
+use Rattle.draft.specs.declared.draft.Part.TheVariants as part
 use Rattle.sheet_laws.proofs.Steps.{InRole, UpToMarks}
 
 -- The agents come first, then the texts, the scripts of the roles, what follows the roles, and the ranks.

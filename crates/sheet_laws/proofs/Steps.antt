@@ -4,11 +4,11 @@ use Rattle.std.proofs.lemmas.Bool.{and_parts}
 use Rattle.std.specs.Str.{bytes_eq}
 use Rattle.lexer.specs.declared.Fault.{Fault}
 use Rattle.lexer.specs.Text.{LineAt, WordAt, is, is_only, lexed}
-use Rattle.sheet.specs.declared.draft.Part.{Part}
-use Rattle.sheet.specs.declared.draft.Part.TheVariants as part
-use Rattle.sheet.specs.Drafts.{Draft, Title}
-use Rattle.sheet.specs.Reading.{agent_line, back_line, claim_line, free_line, fresh_line, know_line, mark_line, nonce_line, rank_line, recv_line, role_shape, seal_line, send_line, sig_line, text_line, title_line, var_line}
-use Rattle.sheet.specs.Sections.{at, blank, cast_at, claiming, in_agents, in_claim, in_free, in_known, in_marks, in_nonces, in_opening, in_part, in_ranks, in_roles, in_seals, in_start, in_steps, in_texts, in_variables, knowing, lines_from, more_agent, more_atom, more_free, more_mark, more_nonce, more_role, more_seal, more_step, more_text, more_variable, new_script, next_role, no_title, opened, role_line, role_read, script_at, table_at}
+use Rattle.draft.specs.declared.draft.Part.{Part}
+use Rattle.draft.specs.declared.draft.Part.TheVariants as part
+use Rattle.draft.specs.Drafts.{Draft, Title}
+use Rattle.draft.specs.Reading.{agent_line, back_line, claim_line, free_line, fresh_line, know_line, mark_line, nonce_line, rank_line, recv_line, role_shape, seal_line, send_line, sig_line, text_line, title_line, var_line}
+use Rattle.draft.specs.Sections.{at, blank, cast_at, claiming, in_agents, in_claim, in_free, in_known, in_marks, in_nonces, in_opening, in_part, in_ranks, in_roles, in_seals, in_start, in_steps, in_texts, in_variables, knowing, lines_from, more_agent, more_atom, more_free, more_mark, more_nonce, more_role, more_seal, more_step, more_text, more_variable, new_script, next_role, no_title, opened, role_line, role_read, script_at, table_at}
 use Rattle.sheet.specs.Sheets.{at_end, finished, reading, sheet_from}
 use Rattle.model.specs.Sheet as model
 use Rattle.terms.specs.Terms.{and_then}

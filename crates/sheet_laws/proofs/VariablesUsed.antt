@@ -8,10 +8,10 @@ use Rattle.model.specs.Sheet as model
 use Rattle.model.specs.Trees.{Term}
 use Rattle.model.specs.Variables.{stands_in, stands_in_step}
 use Rattle.terms.specs.Usages.{check_usages}
-use Rattle.sheet.specs.declared.draft.Part.TheVariants as part
-use Rattle.sheet.specs.Drafts.{Draft, free_scope, script_scope}
-use Rattle.sheet.specs.Reading.{back_line, says_all}
-use Rattle.sheet.specs.Sections.{blank, role_read}
+use Rattle.draft.specs.declared.draft.Part.TheVariants as part
+use Rattle.draft.specs.Drafts.{Draft, free_scope, script_scope}
+use Rattle.draft.specs.Reading.{back_line, says_all}
+use Rattle.draft.specs.Sections.{blank, role_read}
 use Rattle.sheet_laws.specs.VariablesUsed.{RoleUsed, VariablesAreUsed, some}
 use Rattle.sheet_laws.proofs.Declaring as declaring
 use Rattle.sheet_laws.proofs.Declaring.{DeclaredFirst}

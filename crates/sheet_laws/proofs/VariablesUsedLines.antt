@@ -11,7 +11,7 @@ use Rattle.model.specs.Sheet as model
 use Rattle.model.specs.Trees.{Term}
 use Rattle.model.specs.Variables.{receives, stands_in, stands_in_step}
 use Rattle.terms.specs.Terms.{Scope, agent_names, has, variable_names}
-use Rattle.sheet.specs.Drafts.{Cast, Script, Table, free_scope, script_scope}
+use Rattle.draft.specs.Drafts.{Cast, Script, Table, free_scope, script_scope}
 use Rattle.sheet_laws.specs.NamesApart.{Apart}
 use Rattle.sheet_laws.proofs.Adding.{has-append}
 use Rattle.sheet_laws.proofs.Passing.{given, has-it}

@@ -10,7 +10,7 @@ use Rattle.terms.specs.declared.usages.First.{First}
 use Rattle.terms.specs.declared.usages.Usage.{Usage}
 use Rattle.terms.specs.Terms.{and_then}
 use Rattle.terms.specs.Usages.{check_first, check_usages, first_at, note_all, noted, place_of, still_first}
-use Rattle.sheet.specs.Sections.{unused}
+use Rattle.draft.specs.Sections.{unused}
 use Rattle.sheet_laws.specs.VariablesUsed.{VariableUsed, some}
 use Rattle.sheet_laws.proofs.Finding.{nth-push}
 use Rattle.sheet_laws.proofs.VariablesUsedWords.{or_push, says}

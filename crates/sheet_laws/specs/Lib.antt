@@ -7,3 +7,4 @@ pub mod References
 pub mod Signals
 pub mod TermsShort
 pub mod VariablesUsed
+pub mod Claims

@@ -1,6 +1,7 @@
 // Laws of reading a sheet.
 #![tactic(auto)]
 
+ghost use Rattle.sheet_laws.specs.Claims.{ClaimsOfTwoEvents};
 ghost use Rattle.sheet_laws.specs.Counts.{CountsInRange};
 ghost use Rattle.sheet_laws.specs.Messages.{InstancesAreMessages, StartIsMessages};
 ghost use Rattle.sheet_laws.specs.NamesApart.{NamesAreApart};
@@ -65,4 +66,10 @@ pub fn start_is_messages()
 #[tactic(auto, using(crate::proofs::VariablesUsed::variables_used))]
 pub fn variables_are_used()
     ensures { VariablesAreUsed }
+{}
+
+// No event is both the completion and the needed one in the claim of a sheet that is read.
+#[tactic(auto, using(crate::proofs::Claiming::claims_of_two_events))]
+pub fn claims_are_of_two_events()
+    ensures { ClaimsOfTwoEvents }
 {}

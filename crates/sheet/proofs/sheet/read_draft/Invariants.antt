@@ -1,7 +1,7 @@
 use Rattle.std.proofs.Common.{◌≡◌, ◌+◌, drop}
 use Rattle.lexer.specs.Text.{lines_of}
-use Rattle.sheet.specs.Kept.{draft_of}
-use Rattle.sheet.specs.Sections.{blank, lines_from}
+use Rattle.draft.specs.Kept.{draft_of}
+use Rattle.draft.specs.Sections.{blank, lines_from}
 use Rattle.sheet.proofs.sheet.read_draft.Given as goal
 
 -- reading on from here is reading all
