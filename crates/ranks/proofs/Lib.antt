@@ -1,0 +1,16 @@
+pub mod Finding
+pub mod Lines
+pub mod Single
+pub mod Generation
+pub mod Settling
+pub mod Turning
+pub mod Giving
+pub mod Stacking
+pub mod Searching
+pub mod Ranking
+pub mod Reading
+pub mod Events
+pub mod Deciding
+pub mod Valuing
+pub mod Signals
+pub mod Givings

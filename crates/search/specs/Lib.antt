@@ -1,0 +1,4 @@
+pub mod Rows
+pub mod Canonical
+pub mod Exchange
+pub mod Laws
