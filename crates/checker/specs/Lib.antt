@@ -1,0 +1,10 @@
+pub mod Verdicts
+pub mod Rows
+pub mod Kept
+pub mod Laws
+pub mod Trying
+pub mod Tests
+pub mod Narrowing
+pub mod Knowing
+pub mod Sealing
+pub mod Checking
