@@ -2,12 +2,11 @@
 #![tactic(auto)]
 
 use explain::{Unanswered, explain};
-use lines::Lines;
 use std::io::Read;
 use tally::Tally;
+use text_lines::Lines;
 
 mod explain;
-mod lines;
 mod tally;
 
 // Prints what is said of a line, and counts it.

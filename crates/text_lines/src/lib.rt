@@ -1,7 +1,9 @@
 // Text cut into lines.
+#![tactic(auto)]
+
 ghost use Rattle.std.specs.Prelude.{length};
 ghost use Rattle.std.specs.Iterator.{at_most};
-ghost use Rattle.linkmsg.specs.Lines.{FirstLine, NextLine};
+ghost use Rattle.text_lines.specs.Lines.{FirstLine, NextLine};
 
 // The first line of the text, without its LF, and the rest. The last line may lack its LF.
 pub fn split_line(text: &[u8]) -> (&[u8], &[u8])

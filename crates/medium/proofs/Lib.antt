@@ -1,0 +1,17 @@
+pub mod Storing
+pub mod Listing
+pub mod Relaying
+pub mod Open
+pub mod Learning
+pub mod Seeing
+pub mod Growing
+pub mod Visiting
+pub mod Spreading
+pub mod Settling
+pub mod Knowing
+pub mod Hearing
+pub mod Parts
+pub mod Telling
+pub mod Areas
+pub mod Analysing
+pub mod Enemies

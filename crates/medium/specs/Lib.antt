@@ -1,0 +1,11 @@
+pub mod Media
+pub mod Store
+pub mod Single
+pub mod Relays
+pub mod Marks
+pub mod Rounds
+pub mod Spreading
+pub mod Making
+pub mod Settled
+pub mod Told
+pub mod Enemies
