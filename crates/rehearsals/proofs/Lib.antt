@@ -1,0 +1,3 @@
+pub mod Entries
+pub mod Sessions
+pub mod Guarding
