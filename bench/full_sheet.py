@@ -1,5 +1,6 @@
 #!/usr/bin/env python3
 """Writes a sheet of exactly 8,192 bytes, the most that a sheet may have, that breaks no rule."""
+from sheet_text import text_of
 
 AGENTS = ["agentaaa", "agentbbb"]
 # The two short names make the text end at the last byte that it may have.
@@ -27,13 +28,7 @@ def sheet():
         ("claim", ["holds done agentaaa needs begun agentaaa"]),
         ("ranks", []),
     ]
-    lines = ["link sheet 1"]
-    numbers = []
-    for word, section in sections:
-        numbers.append(len(lines) + 1)
-        lines += [word] + section
-    lines.append("back " + " ".join(map(str, numbers)))
-    return "\n".join(lines) + "\n"
+    return text_of(sections)
 
 
 if __name__ == "__main__":

@@ -1,11 +1,19 @@
-// rehearsal: reads a sheet from standard input and tells what it says, or its first fault.
+// rehearsal: reads a sheet from standard input, and tells what it says and the verdict on it, or its first fault.
 #![tactic(auto)]
 
+mod contact;
+mod script;
+mod verdict;
+
+use checker::{Unchecked, check};
+use contact::run_script;
 use lexer::Declined;
 use model::{Agent, Role, Sort};
+use scale::Whole;
 use sheet::{Contents, Sheet};
-use std::fmt;
 use std::io::Read;
+use std::{env, fmt, fs};
+use verdict::ToldVerdict;
 
 // No sheet has more bytes.
 const MOST_BYTES: u64 = 8192;
@@ -74,6 +82,19 @@ fn tell(rt: &HostRuntime, contents: &Contents) -> anyhow::Result<()> {
     Ok(())
 }
 
+// The verdict on the whole scale, or why there is none.
+fn tell_verdict(rt: &HostRuntime, sheet: &Sheet, contents: &Contents) -> anyhow::Result<()> {
+    match check::<Whole>(rt.alloc(), sheet) {
+        Ok(verdict) => {
+            let verdict = &verdict;
+            println!(rt; "{}", ToldVerdict { contents, verdict })?;
+        }
+        Err(unchecked @ Unchecked::Memory) => return Err(unchecked.into()),
+        Err(unchecked) => println!(rt; "{unchecked}")?,
+    }
+    Ok(())
+}
+
 fn run(rt: &HostRuntime) -> anyhow::Result<()> {
     let mut text = Vec::new(rt.alloc());
     // One byte past the most suffices to see that a text is too long.
@@ -87,6 +108,11 @@ fn run(rt: &HostRuntime) -> anyhow::Result<()> {
     // A sheet that is not read is empty.
     if let Some(contents) = sheet.contents() {
         tell(rt, contents)?;
+        tell_verdict(rt, &sheet, contents)?;
+        // The first argument after the program's name.
+        if let Some(path) = env::args(rt)?.nth(1) {
+            run_script(rt, contents, fs::read(rt, path)?.as_slice())?;
+        }
     }
     Ok(())
 }
