@@ -12,7 +12,7 @@ use Rattle.message.specs.declared.Kind.TheVariants as kind
 use Rattle.message.specs.Message.{atom, size}
 use Rattle.model.specs.declared.node.Sort.{Sort}
 use Rattle.model.specs.declared.node.Sort.TheVariants.{Fresh, Plain}
-use Rattle.model.specs.Sheet.{Nonce, Sheet, Variable, named}
+use Rattle.model.specs.Sheet.{Nonce, Sheet, Variable, is_for, named}
 use Rattle.model.specs.Trees.{Term}
 use Rattle.model.specs.Variables.{stands_in}
 use Rattle.instances.specs.Instances as instances
@@ -21,7 +21,7 @@ use Rattle.instances.specs.Substitution.{atom_at, both}
 use Rattle.ranks.specs.Ranks.{kind_of}
 use Rattle.search.specs.declared.place.Place.{Place}
 use Rattle.search.specs.Rows.{Allowed, Fits, count}
-use Rattle.checker.specs.Rows.{Choice, any_of, choice, choice_at, counts, filled, filling, is_for, open_choices, own_nonce, role_choices, role_slots, seal_slots}
+use Rattle.checker.specs.Rows.{Choice, any_of, choice, choice_at, counts, filled, filling, open_choices, own_nonce, role_choices, role_slots, seal_slots}
 use Rattle.checker.specs.Verdicts.{EachStanding, number, numbers}
 use Rattle.checker.proofs.BadSteps.{Each}
 use Rattle.checker.proofs.Filling.{kinds}

@@ -9,12 +9,12 @@ use Rattle.model.specs.Stored.{nonce_of, step_of, variable_of}
 use Rattle.ranks.specs.Ranks.{kind_of}
 use Rattle.std.proofs.lemmas.List.{take-map}
 use Rattle.model.specs.declared.stored.Step.{Step}
-use Rattle.model.specs.Sheet.{Sheet}
+use Rattle.model.specs.Sheet.{Sheet, is_for}
 use Rattle.model.specs.Trees.{Term}
 use Rattle.search.specs.declared.place.Place.{Place}
 use Rattle.checker.specs.declared.rows.Choice as stored
 use Rattle.checker.specs.Kept.{choice_of}
-use Rattle.checker.specs.Rows.{Choice, choice_at, is_for, open_choices, role_choices, role_slots, seal_slots}
+use Rattle.checker.specs.Rows.{Choice, choice_at, open_choices, role_choices, role_slots, seal_slots}
 
 -- a role's slots by its variables as they are kept
 pub slots_stored : (vs : List Variable) → role_slots (map variable_of vs) ≡ map (λ v. Some (kind_of v.sort)) vs

@@ -8,7 +8,7 @@ use Rattle.message.specs.Message.{atom}
 use Rattle.instances.specs.Substitution.{atom_at, both}
 use Rattle.model.specs.declared.node.Sort.{Sort}
 use Rattle.model.specs.declared.node.Sort.TheVariants.{Fresh, Plain}
-use Rattle.model.specs.Sheet.{Nonce, Sheet, Variable, named}
+use Rattle.model.specs.Sheet.{Sheet, Variable, is_for, named}
 use Rattle.model.specs.Trees.{Term}
 use Rattle.model.specs.Variables.{stands_in}
 use Rattle.ranks.specs.Ranks.{kind_of}
@@ -60,10 +60,6 @@ pub record Choice : Type 0 where
 -- any number of the kind
 abbrev pub any_of : Sheet → Kind → Choice
 any_of m k = record { kind = k; named = replicate (named m k) true; strangers = true }
-
--- the nonce is named for variable i of role r where agent a plays it
-abbrev pub is_for : (r a i : ℕ) → Nonce → Bool
-is_for r a i n = n.agent == a && (n.role == r && n.variable == i)
 
 -- a nonce without a name, or one that is named for variable i of role r where agent a plays it
 abbrev pub own_nonce : Sheet → (r a i : ℕ) → Choice

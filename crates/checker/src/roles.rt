@@ -1,7 +1,6 @@
 // The search for the first bad step of a role, and for the least instance in which it is bad.
 ghost use Rattle.std.specs.Prelude.{◌≡◌, ◌≤◌, ◌&&◌, IfOk, Some, length, min, slice_get};
 ghost use Rattle.instances.specs.Instances.{Honest, MayPlay};
-ghost use Rattle.model.specs.Sheet.{honest, may_play};
 ghost use Rattle.model.specs.Stored.{role_of};
 ghost use Rattle.sheet.specs.Kept.{contents_of};
 ghost use Rattle.checker.specs.Narrowing.{FoundBelow, FoundFor, FoundIn, WasRead};
@@ -29,14 +28,6 @@ fn agent_count(contents: &Contents) -> u8
     ensures { result ≡ min (length (contents_of contents.now).agents) 255 }
 {
     u8::try_from(contents.agents().len()).unwrap_or(u8::MAX)
-}
-
-// Whether the agent is honest and may play the role.
-fn plays(contents: &Contents, role: &Role, agent: usize) -> bool
-    ensures { result ≡ (honest (slice_get (contents_of contents.now).agents agent) && may_play (contents_of contents.now).agents (role_of role.now).player agent) }
-{
-    let honest = contents.agents().get(agent).is_some_and(|a| !a.enemy);
-    honest && role.player.is_none_or(|player| player == agent)
 }
 
 // The least instance of the agent in which a step below the bound is bad, and its first such step.
@@ -92,7 +83,7 @@ fn least_below<S: Scale>(
     ensures { IfOk result (FoundBelow S.meaning (contents_of contents.now) number bound) }
 {
     for agent in 0..agent_count(contents) {
-        if plays(contents, role, usize::from(agent)) {
+        if contents.is_played_by(role, usize::from(agent)) {
             let found = least_for::<S>(heap, contents, number, role, bound, agent)?;
             if found.is_some() {
                 return Ok(found);

@@ -2,11 +2,11 @@
 ghost use Rattle.std.specs.Prelude.{◌≡◌, IfOk, map, Some};
 ghost use Rattle.std.specs.Option.{option_map};
 ghost use Rattle.model.specs.Stored.{nonce_of, sealed_of, variable_of};
-ghost use Rattle.model.specs.Sheet.{named};
+ghost use Rattle.model.specs.Sheet.{is_for, named};
 ghost use Rattle.ranks.specs.Ranks.{kind_of};
 ghost use Rattle.sheet.specs.Kept.{contents_of};
 ghost use Rattle.checker.specs.Kept.{choice_of};
-ghost use Rattle.checker.specs.Rows.{any_of, choice, choice_at, counts, fitted, is_for, open_choices, own_nonce, role_choices, seal_slots};
+ghost use Rattle.checker.specs.Rows.{any_of, choice, choice_at, counts, fitted, open_choices, own_nonce, role_choices, seal_slots};
 
 use arrayvec::ArrayVec;
 use instances::atom_at;
@@ -144,7 +144,7 @@ fn own_nonces(
 {
     nonces
         .iter()
-        .map(|n| n.agent == agent && n.role == role && n.variable == variable)
+        .map(|n| n.is_for(role, agent, variable))
         .collect(heap)
 }
 

@@ -1,5 +1,5 @@
 -- The link sheet: who takes part, their scripts, what the enemy knows beforehand, the claim, and the table of ranks.
-use Rattle.std.specs.Prelude.{ℕ, Bool, false, not, List, length, ℤ, Some, None, Option, ◌==◌}
+use Rattle.std.specs.Prelude.{ℕ, Bool, false, not, ◌&&◌, List, length, ℤ, Some, None, Option, ◌==◌}
 use Rattle.std.specs.List.{slice_get}
 use Rattle.message.specs.declared.Kind.{Kind}
 use Rattle.message.specs.declared.Kind.TheVariants as kind
@@ -79,3 +79,11 @@ honest (Some a) = not a.enemy
 abbrev pub may_play : List Agent → Option ℕ → ℕ → Bool
 may_play agents None a = honest (slice_get agents a)
 may_play agents (Some p) a = p == a
+
+-- A session of the role is played by an honest agent, which is the player if the role has one.
+abbrev pub plays : List Agent → Option ℕ → ℕ → Bool
+plays agents player a = honest (slice_get agents a) && may_play agents player a
+
+-- The nonce is named for variable i of role r where agent a plays it.
+abbrev pub is_for : (r a i : ℕ) → Nonce → Bool
+is_for r a i n = n.agent == a && (n.role == r && n.variable == i)

@@ -1,4 +1,6 @@
 // What a sheet is made of, as it is kept in memory.
+ghost use Rattle.std.specs.Prelude.{◌≡◌};
+
 use super::name::Name;
 use super::node::{Field, Sort};
 use super::term::Term;
@@ -48,6 +50,18 @@ pub struct Nonce {
     pub agent: usize,
     pub role: usize,
     pub variable: usize,
+}
+
+impl Nonce {
+    ghost use Rattle.model.specs.Sheet.{is_for};
+    ghost use Rattle.model.specs.Stored.{nonce_of};
+
+    // Whether it is named for this variable of the role where the agent plays it.
+    pub fn is_for(&self, role: usize, agent: usize, variable: usize) -> bool
+        ensures { result ≡ is_for role agent variable (nonce_of self.now) }
+    {
+        self.agent == agent && self.role == role && self.variable == variable
+    }
 }
 
 // The completion is claimed to come only after the needed event.

@@ -39,17 +39,17 @@ pub second_true : (a b : Bool) → (a && b) ≡ true → b ≡ true
 second_true true b e = e
 second_true false b e = let z : false ≡ true = e in cc
 
-same_self : (x : Atom) → same x x ≡ true
+pub same_self : (x : Atom) → same x x ≡ true
 same_self (Agent n) = eq-eqb n n refl
 same_self (Nonce n) = eq-eqb n n refl
 same_self (Text n) = eq-eqb n n refl
 
-kind_self : (k : Kind) (n : ℕ) → is_kind k (atom k n) ≡ true
+pub kind_self : (k : Kind) (n : ℕ) → is_kind k (atom k n) ≡ true
 kind_self kind.Agent n = refl
 kind_self kind.Nonce n = refl
 kind_self kind.Text n = refl
 
-same_is : (x y : Atom) → same x y ≡ true → x ≡ y
+pub same_is : (x y : Atom) → same x y ≡ true → x ≡ y
 same_is (Agent m) (Agent n) e = ap Agent (eqb-true m n e)
 same_is (Agent m) (Nonce n) e = cc
 same_is (Agent m) (Text n) e = cc
@@ -75,7 +75,7 @@ said_name k n x e =
     let (lt, is) = atom_is k n x e in
     cond-true (nat_lt n (size k)) (Some (atom k n)) None lt ∙ ap Some is
 
-kind_is : (k : Kind) (x : Atom) → Fits (single x) → is_kind k x ≡ true → Of k x
+pub kind_is : (k : Kind) (x : Atom) → Fits (single x) → is_kind k x ≡ true → Of k x
 kind_is kind.Agent (Agent m) h e = (m, h, refl)
 kind_is kind.Agent (Nonce m) h e = cc
 kind_is kind.Agent (Text m) h e = cc

@@ -14,6 +14,9 @@ mod valued;
 
 pub use compute::{gives_bytes, is_positive, rank};
 pub use event::event_rank;
+pub use matching::{is_atom, is_kind};
+pub use piece::Piece;
+pub use pieces::Pieces;
 use scale::Scale;
 pub use signal::{lists_signal, signal_rank};
 pub use valued::is_valued;

@@ -17,7 +17,7 @@ pub enum Settled<'a> {
 }
 
 // Whether the atom is the one of this kind and number.
-fn is_atom(kind: Kind, number: usize, atom: Atom) -> bool
+pub fn is_atom(kind: Kind, number: usize, atom: Atom) -> bool
     ensures { result ≡ is_atom kind number atom }
 {
     match (kind, atom) {
@@ -27,7 +27,8 @@ fn is_atom(kind: Kind, number: usize, atom: Atom) -> bool
     }
 }
 
-fn is_kind(kind: Kind, atom: Atom) -> bool
+// Whether the atom is one of the kind.
+pub fn is_kind(kind: Kind, atom: Atom) -> bool
     ensures { result ≡ is_kind kind atom }
 {
     matches!(

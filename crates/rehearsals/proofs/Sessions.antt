@@ -27,7 +27,7 @@ Less {A} o p = (x : A) → o ≡ Some x → p ≡ Some x
 abbrev pub More : List (Option Atom) → List (Option Atom) → Type 0
 More vs ws = (i : ℕ) → Less (slice_index_or vs i None) (slice_index_or ws i None)
 
-both_less : {A B C : Type 0} (f : A → B → C) (a p : Option A) (b q : Option B) → Less a p → Less b q → Less (both f a b) (both f p q)
+pub both_less : {A B C : Type 0} (f : A → B → C) (a p : Option A) (b q : Option B) → Less a p → Less b q → Less (both f a b) (both f p q)
 both_less f None p b q h k x e = absurd (none-some x e)
 both_less f (Some a) p None q h k x e = absurd (none-some x e)
 both_less f (Some a) p (Some b) q h k x e = (λ i. both f (h a refl i) (k b refl i)) ∙ e
@@ -47,15 +47,15 @@ module _ (me : Option ℕ) (vs ws : List (Option Atom)) (more : More vs ws) wher
   abbrev after : Values
   after = record { player = me; variables = ws }
 
-  value_less : (f : Field) → Less (value before f) (value after f)
+  pub value_less : (f : Field) → Less (value before f) (value after f)
   value_less field.Player x e = e
   value_less (field.Variable i) x e = more i x e
   value_less (field.Named k n) x e = e
 
-  key_less : (f g : Field) → Less (key_under before f g) (key_under after f g)
+  pub key_less : (f g : Field) → Less (key_under before f g) (key_under after f g)
   key_less f g = both_less key_of _ _ _ _ (number_less _ _ (value_less f)) (number_less _ _ (value_less g))
 
-  message_less : (t : Term) → Less (message before t) (message after t)
+  pub message_less : (t : Term) → Less (message before t) (message after t)
   message_less (leaf f) = map_less single _ _ (value_less f)
   message_less (pair l r) = both_less messages.pair _ _ _ _ (message_less l) (message_less r)
   message_less (key f g) = map_less messages.key _ _ (key_less f g)

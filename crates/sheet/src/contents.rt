@@ -1,6 +1,7 @@
 // What a sheet says, part by part.
 ghost use Rattle.std.specs.Prelude.{◌≡◌, map};
 ghost use Rattle.model.specs.Names.{letters};
+ghost use Rattle.model.specs.Sheet.{plays};
 ghost use Rattle.model.specs.Stored.{agent_of, claim_of, nonce_of, ranked_of, role_of, sealed_of, signal_of, term_of, variable_of};
 ghost use Rattle.sheet.specs.Kept.{contents_of};
 ghost use Rattle.sheet.specs.Sheets.{atom_of};
@@ -56,6 +57,14 @@ impl Contents {
         ensures { map term_of result.now ≡ (contents_of self.now).known }
     {
         self.known.as_slice()
+    }
+
+    // Whether the agent may play the role: it is honest, and the player if the role has one.
+    pub fn is_played_by(&self, role: &Role, agent: usize) -> bool
+        ensures { result ≡ plays (contents_of self.now).agents (role_of role.now).player agent }
+    {
+        let honest = self.agents.get(agent).is_some_and(|a| !a.enemy);
+        honest && role.player.is_none_or(|player| player == agent)
     }
 
     // The claim.

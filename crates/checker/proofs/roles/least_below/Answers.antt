@@ -6,7 +6,7 @@ use Rattle.model.specs.Stored.{role_of}
 use Rattle.sheet.specs.Kept.{contents_of}
 use Rattle.checker.proofs.Narrowing.{every_agent, found_first, found_none, not_playing}
 use Rattle.checker.proofs.roles.least_below.Goals as goal
-use Rattle.checker.proofs.roles.least_below.Goals.{then-plays+in_ok-found+else-is_some+in-Some-1, then-plays+in_ok-found+else-is_some+in-None-1, else-plays}
+use Rattle.checker.proofs.roles.least_below.Goals.{then-is_played_by+in_ok-found+else-is_some+in-Some-1, then-is_played_by+in_ok-found+else-is_some+in-None-1, else-is_played_by}
 
 pub returns-then-is_some : goal.returns-then-is_some
 returns-then-is_some g c =
@@ -14,14 +14,14 @@ returns-then-is_some g c =
 
 pub loop-agent-preserved : goal.loop-agent-preserved
 loop-agent-preserved g c =
-    elim c.if-plays.branch [
-      | then-plays+in_ok-found+else-is_some+in-Some-1 w ↦
+    elim c.if-is_played_by.branch [
+      | then-is_played_by+in_ok-found+else-is_some+in-Some-1 w ↦
           found_none g.S.Scale.meaning (contents_of c.args.contents.now) c.args.number c.args.bound c.loop-agent.agent c.loop-agent.invariant w.in_ok-found.found (sym w.is_some.ensures ∙ w.if-is_some.false) w.in_ok-found.ensures
-      | then-plays+in_ok-found+else-is_some+in-None-1 w ↦
+      | then-is_played_by+in_ok-found+else-is_some+in-None-1 w ↦
           found_none g.S.Scale.meaning (contents_of c.args.contents.now) c.args.number c.args.bound c.loop-agent.agent c.loop-agent.invariant w.in_ok-found.found (sym w.is_some.ensures ∙ w.if-is_some.false) w.in_ok-found.ensures
-      | else-plays w ↦
+      | else-is_played_by w ↦
           not_playing g.S.Scale.meaning (contents_of c.args.contents.now) c.args.number c.args.bound c.loop-agent.agent c.loop-agent.invariant (role_of c.args.role.now) c.requires.is_role
-          (subst (λ (n : ℕ). (honest (slice_get (contents_of c.args.contents.now).agents n) && may_play (contents_of c.args.contents.now).agents (role_of c.args.role.now).player n) ≡ false) c.from.ensures (sym c.plays.ensures ∙ w.if-plays.false))
+          (subst (λ (n : ℕ). (honest (slice_get (contents_of c.args.contents.now).agents n) && may_play (contents_of c.args.contents.now).agents (role_of c.args.role.now).player n) ≡ false) c.from.ensures (sym c.is_played_by.ensures ∙ w.if-is_played_by.false))
     ]
 
 pub returns : goal.returns

@@ -1,0 +1,14 @@
+pub mod Boards
+pub mod Calls
+pub mod Deliveries
+pub mod Matching
+pub mod Receiving
+pub mod Placing
+pub mod Proving
+pub mod Records
+pub mod Refusals
+pub mod Rehearsing
+pub mod Sends
+pub mod Signals
+pub mod Starts
+pub mod Steps
