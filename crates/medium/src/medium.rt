@@ -7,12 +7,16 @@ use thiserror::Error;
 
 // The bytes are no message that there is space for.
 #[derive(Clone, Copy, PartialEq, Eq, Debug, Error)]
-#[error("refusal {}", NoSpace::NUMBER)]
+#[error("refusal {}", self.number())]
 pub struct NoSpace;
 
 impl NoSpace {
     // The refusal's number.
-    pub const NUMBER: u8 = 42;
+    pub fn number(self) -> u8
+        ensures { result ≡ 42 }
+    {
+        42
+    }
 }
 
 // Whatever carries messages between sessions.

@@ -143,9 +143,8 @@ mod tests {
         assert_eq!(rt; take_and_ask(&mut relay, KEY), Ok(true));
         assert!(rt; !relay.offers(NONCE));
         assert!(rt; !relay.offers(b"A\x01"));
-        // No contract says the refusal's number.
         assert_eq!(rt; take_and_ask(&mut relay, b"A"), Err(NoSpace));
-        assert_eq!(rt; NoSpace::NUMBER, 42);
+        assert_eq!(rt; NoSpace.number(), 42);
         Ok(())
     }
 
