@@ -15,6 +15,7 @@ use Rattle.instances.specs.Substitution.{message}
 use Rattle.scale.specs.Scales.{Scale}
 use Rattle.ranks.specs.Conditions.{SealsAgree}
 use Rattle.ranks.specs.Ranks.{EachOf, free_values, kind_of}
+use Rattle.checker.specs.Rows.{seal_slots}
 use Rattle.checker.specs.Verdicts.{BadSeal, EachStanding, LeastSeal}
 use Rattle.checker.proofs.Deciding.{iff_decided, positive_decided, stable, true_decided}
 use Rattle.checker.proofs.Slots.{Fills, fills_order}
@@ -112,11 +113,6 @@ module _ (scale : Scale) (sheet : Sheet) where
       }))
 
 -- ---- the order of the values
-
--- a slot for each free variable: of its kind where it stands there
-abbrev pub seal_slots : Term → ℕ → List Variable → List (Option Kind)
-seal_slots t i [] = []
-seal_slots t i (v ∷ vs) = cond (stands_in i t) (Some (kind_of v.sort)) None ∷ seal_slots t (i + 1) vs
 
 pub standing_fills : (t : Term) (i : ℕ) (vs : List Variable) (os : List (Option Atom)) → EachStanding t i vs os → Fills (seal_slots t i vs) os
 standing_fills t i [] [] e = tt

@@ -14,6 +14,7 @@ use Rattle.instances.specs.Instances.{Allowed, Instance, Of, played}
 use Rattle.scale.specs.Scales.{Scale}
 use Rattle.ranks.specs.Conditions.{RolesMaintain}
 use Rattle.ranks.specs.Ranks.{kind_of}
+use Rattle.checker.specs.Rows.{role_slots}
 use Rattle.checker.specs.Verdicts.{BadStep, LeastStep, acted}
 use Rattle.checker.proofs.Deciding.{maintains_decided, stable}
 use Rattle.checker.proofs.Slots.{Fills, fills_order}
@@ -75,11 +76,6 @@ each_declared May vs [] e i x is = absurd (none-some x is)
 each_declared May [] (o ∷ os) e i x is = absurd e
 each_declared May (v ∷ vs) (o ∷ os) e zero x is = (v, refl)
 each_declared May (v ∷ vs) (o ∷ os) e (suc i) x is = each_declared (λ j. May (suc j)) vs os e.1 i x is
-
--- a slot for each variable
-abbrev pub role_slots : List Variable → List (Option Kind)
-role_slots [] = []
-role_slots (v ∷ vs) = Some (kind_of v.sort) ∷ role_slots vs
 
 each-fills : (May : ℕ → Sort → Atom → Type 0) → ((i : ℕ) (s : Sort) (x : Atom) → May i s x → Of (kind_of s) x) → (vs : List Variable) (os : List (Option Atom)) → Each May vs os → Fills (role_slots vs) os
 each-fills May of [] [] e = tt

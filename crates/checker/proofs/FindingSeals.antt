@@ -11,8 +11,9 @@ use Rattle.scale.specs.Scales.{Scale}
 use Rattle.ranks.specs.Conditions.{KnowledgePositive, NoneEarlier}
 use Rattle.ranks.specs.Ranks.{Gives, Positive, free_values}
 use Rattle.ranks.proofs.Finding.{dec_by, gives}
+use Rattle.checker.specs.Rows.{seal_slots}
 use Rattle.checker.specs.Verdicts.{BadSeal, FirstOf, LeastSeal}
-use Rattle.checker.proofs.BadSeals.{bad_fills, fills_standing, seal_slots}
+use Rattle.checker.proofs.BadSeals.{bad_fills, fills_standing}
 use Rattle.checker.proofs.Deciding.{below_decided, both_decided, first_or_none, iff_decided, not_decided, positive_decided, some_decided, there_decided, true_decided}
 use Rattle.checker.proofs.Slots.{Fills, LeastRow, SomeRow, row_decided, some_row, the_least}
 

@@ -12,8 +12,9 @@ use Rattle.search.specs.Rows.{Less}
 use Rattle.ranks.specs.Conditions.{CompletionNot, KnowledgePositive, Maintains, SealsAgree}
 use Rattle.ranks.specs.Ranks.{ListsEvent, Positive}
 use Rattle.ranks.proofs.Finding.{dec_by, lists_event}
+use Rattle.checker.specs.Rows.{role_slots}
 use Rattle.checker.specs.Verdicts.{BadStep, FirstOf, LeastStep, numbers}
-use Rattle.checker.proofs.BadSteps.{instance_fills, role_slots}
+use Rattle.checker.proofs.BadSteps.{instance_fills}
 use Rattle.checker.proofs.Deciding.{below_decided, both_decided, first_or_none, maintains_decided, not_decided, positive_decided, some_decided, stable, the_first, there_decided}
 use Rattle.checker.proofs.Slots.{LeastRow, SomeRow, row_decided, some_row, the_least}
 use Rattle.checker.proofs.DecidingInstances.{Sole, sole_decided}
