@@ -3,11 +3,17 @@ use Rattle.std.specs.Prelude.{◌≡◌, ℕ, ◌+◌, ◌/◌, ◌%◌, ◌<◌
 use Rattle.std.proofs.Common.{sym, refl, ap, subst, ◌∙◌, arith, append_assoc, append-nil, length-append}
 use Rattle.std.proofs.lemmas.Option.{none-some, some_pair_parts}
 use Rattle.message.specs.declared.Atom.TheVariants.{Agent, Nonce, Text}
-use Rattle.message.specs.Message.{Msg, Reads, agent, nonce, text, key, pair, seal, shared, wire}
+use Rattle.message.specs.Message.{Msg, Reads, agent, nonce, text, key, key_bytes, pair, seal, shared, single, wire}
 use Rattle.ranks.specs.declared.piece.Piece.{Piece}
 use Rattle.ranks.specs.declared.piece.Piece.TheVariants as piece
-use Rattle.ranks.specs.PieceBytes.{PiecesOf, front_piece, number_at, piece_bytes}
+use Rattle.ranks.specs.PieceBytes.{PiecesOf, front_piece, number_at}
 use Rattle.ranks.specs.Pieces.{pieces}
+
+abbrev pub piece_bytes : Piece → List ℕ
+piece_bytes (piece.Single x) = wire (single x)
+piece_bytes piece.Pair = 80 ∷ []
+piece_bytes (piece.Key a b) = key_bytes (shared a b)
+piece_bytes (piece.Seal a b) = 69 ∷ key_bytes (shared a b)
 
 abbrev pub bytes_of : List Piece → List ℕ
 bytes_of [] = []

@@ -4,7 +4,8 @@ use Rattle.std.proofs.Common.{sym, refl, ap, ap₂, ◌∙◌, inl, inr, ⊎_eli
 use Rattle.std.proofs.Math.Decide.{ℕ_discrete}
 use Rattle.message.specs.declared.Atom.{Atom}
 use Rattle.message.specs.declared.Atom.TheVariants.{Agent, Nonce, Text}
-use Rattle.message.specs.Message.{key_of, shared}
+use Rattle.message.specs.declared.Kind.TheVariants as kind
+use Rattle.message.specs.Message.{Fits, key_of, shared, single, size}
 use Rattle.model.specs.declared.node.Field.{Field}
 use Rattle.model.specs.declared.node.Node.{Node}
 use Rattle.model.specs.declared.node.Node.TheVariants as node
@@ -14,7 +15,6 @@ use Rattle.instances.proofs.Parts.{of-both}
 use Rattle.ranks.specs.declared.piece.Piece.{Piece}
 use Rattle.ranks.specs.declared.piece.Piece.TheVariants as piece
 use Rattle.ranks.specs.Matching.{Stands, fits, in_order, in_some_order, may_stand, solves, stands}
-use Rattle.ranks.specs.Pieces.{PieceFits}
 use Rattle.ranks.specs.Ranks.{EachOf, free_values}
 use Rattle.ranks.proofs.Settling.{Settles, Solvable, both_true, first_true, may_be_said, may_said, second_true}
 
@@ -42,6 +42,13 @@ abbrev pub Turns : Values → List Node → List Piece → Type 0
 Turns v [] ps = Unit {0}
 Turns v (n ∷ ns) [] = ⊥
 Turns v (n ∷ ns) (p ∷ ps) = Becomes v n p × Turns v ns ps
+
+-- the numbers of a node are of their kind
+abbrev pub PieceFits : Piece → Type 0
+PieceFits (piece.Single x) = Fits (single x)
+PieceFits piece.Pair = Unit {0}
+PieceFits (piece.Key a b) = (a < size kind.Agent) × (b < size kind.Agent)
+PieceFits (piece.Seal a b) = (a < size kind.Agent) × (b < size kind.Agent)
 
 abbrev pub AllFit : List Piece → Type 0
 AllFit [] = Unit {0}

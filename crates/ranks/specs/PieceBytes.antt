@@ -2,17 +2,11 @@
 use Rattle.std.specs.Prelude.{◌≡◌, ℕ, ◌+◌, ◌*◌, cond, List, [], ◌∷◌, Some, None, Option, ◌==◌}
 use Rattle.message.specs.declared.Atom.{Atom}
 use Rattle.message.specs.declared.Atom.TheVariants.{Agent, Nonce, Text}
-use Rattle.message.specs.Message.{IsMessage, Msg, Reads, key_bytes, shared, single, wire}
+use Rattle.message.specs.Message.{IsMessage, Msg, Reads}
 use Rattle.ranks.specs.declared.piece.Piece.{Piece}
 use Rattle.ranks.specs.declared.piece.Piece.TheVariants as piece
 use Rattle.ranks.specs.declared.pieces.Pieces.{Pieces}
 use Rattle.ranks.specs.Pieces.{pieces}
-
-abbrev pub piece_bytes : Piece → List ℕ
-piece_bytes (piece.Single x) = wire (single x)
-piece_bytes piece.Pair = 80 ∷ []
-piece_bytes (piece.Key a b) = key_bytes (shared a b)
-piece_bytes (piece.Seal a b) = 69 ∷ key_bytes (shared a b)
 
 -- a number from its two bytes, the high one first
 abbrev pub number_at : ℕ → ℕ → ℕ

@@ -18,7 +18,8 @@ use Rattle.ranks.specs.Conditions.{Maintains}
 use Rattle.ranks.specs.Ranks.{ListsEvent, Positive}
 use Rattle.ranks.proofs.Finding.{lists_event, same_message}
 use Rattle.checker.specs.Verdicts.{BadStep}
-use Rattle.checker.proofs.BadSteps.{instance_fills, role_slots}
+use Rattle.checker.proofs.BadSteps.{instance_fills}
+use Rattle.checker.specs.Rows.{role_slots}
 use Rattle.checker.proofs.Slots.{Fills}
 use Rattle.worked.specs.Silence.{answer_lines, bus, ground, ground_doing, hasty, is_set, is_told, silence_with}
 use Rattle.worked.proofs.Positive.{answer_message, asking_positive, other_answer_positive, other_event_positive}
