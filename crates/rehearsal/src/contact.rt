@@ -1,69 +1,174 @@
-// Runs a contact script over media on a sheet, and tells what came of each line.
-use super::script::{Command, Over, read_command};
+// Runs a contact script on boards over media on a sheet, and tells what came of each line.
+use super::calls::tell_act;
+use super::log::tell_log;
+use super::script::{Command, Over, Tables, read_command};
+use board::{Board, Event, Session};
 use medium::{Enemy, Medium, Relay};
-use sheet::Contents;
+use model::Name;
+use sheet::{Contents, Sheet};
 use std::str::from_utf8;
 use text_lines::Lines;
 
-// An area of so many bytes.
-fn area(rt: &HostRuntime, bytes: u16) -> anyhow::Result<Vec<u8>> {
-    let mut area = Vec::new(rt.alloc());
-    area.resize(usize::from(bytes), 0)?;
-    Ok(area)
+// What a script is run on.
+#[derive(Clone, Copy)]
+struct Stage<'a> {
+    rt: &'a HostRuntime,
+    sheet: &'a Sheet,
+    contents: &'a Contents,
 }
 
-// What came of a line that is no `over` line.
-fn answer<M: Medium>(rt: &HostRuntime, medium: &mut M, command: &Command) -> anyhow::Result<()> {
-    match command {
-        Command::Hear(bytes) => match medium.take(bytes.as_slice()) {
-            Ok(()) => println!(rt; "heard")?,
-            Err(no_space) => println!(rt; "{no_space}")?,
-        },
-        Command::Ask(bytes) if medium.offers(bytes.as_slice()) => println!(rt; "offered")?,
-        Command::Ask(_) => println!(rt; "not offered")?,
-        Command::Over(_) => {}
+// The lines of a script that are still to be run, and how large the tables of its next board are.
+#[derive(Drop)]
+struct Rest<'a> {
+    lines: Lines<'a>,
+    tables: Tables,
+}
+
+// The medium that a line asks for, and that line.
+#[derive(Clone, Copy)]
+struct Next<'a> {
+    over: Over,
+    line: &'a [u8],
+}
+
+// So many entries.
+fn filled<T: Copy>(rt: &HostRuntime, entry: T, count: u16) -> anyhow::Result<Vec<T>> {
+    let mut table = Vec::new(rt.alloc());
+    table.resize(usize::from(count), entry)?;
+    Ok(table)
+}
+
+// An area of so many bytes.
+fn area(rt: &HostRuntime, bytes: u16) -> anyhow::Result<Vec<u8>> {
+    filled(rt, 0, bytes)
+}
+
+// A table of so many sessions. What it holds beforehand is never read.
+fn session_table(rt: &HostRuntime, count: u16) -> anyhow::Result<Vec<Session>> {
+    let session = Session {
+        role: 0,
+        agent: 0,
+        next: 0,
+        values: [None; 5],
+    };
+    filled(rt, session, count)
+}
+
+// A table of so many events. What it holds beforehand is never read.
+fn event_table(rt: &HostRuntime, count: u16) -> anyhow::Result<Vec<Event>> {
+    let event = Event {
+        word: Name::new(b""),
+        atoms: [None; 4],
+    };
+    filled(rt, event, count)
+}
+
+// Lets the medium hear the bytes.
+fn hear<M: Medium>(rt: &HostRuntime, medium: &mut M, bytes: &[u8]) -> anyhow::Result<()> {
+    match medium.take(bytes) {
+        Ok(()) => println!(rt; "heard")?,
+        Err(no_space) => println!(rt; "{no_space}")?,
     }
     Ok(())
 }
 
-// Runs the lines over the medium, until one asks for another.
-fn run_over<M: Medium>(
-    rt: &HostRuntime,
-    medium: &mut M,
-    lines: &mut Lines,
-) -> anyhow::Result<Option<Over>> {
-    for line in lines.by_ref() {
-        match read_command(rt.alloc(), line)? {
-            None => println!(rt; "not a line")?,
-            Some(Command::Over(over)) => {
-                println!(rt; "{}", from_utf8(line)?)?;
-                return Ok(Some(over));
-            }
-            Some(command) => answer(rt, medium, &command)?,
-        }
-    }
-    Ok(None)
+// Asks the medium for the bytes.
+fn ask<M: Medium>(rt: &HostRuntime, medium: &M, bytes: &[u8]) -> anyhow::Result<()> {
+    let answer = if medium.offers(bytes) {
+        "offered"
+    } else {
+        "not offered"
+    };
+    println!(rt; "{answer}")?;
+    Ok(())
 }
 
-// Runs a script on a sheet that says this.
-pub fn run_script(rt: &HostRuntime, contents: &Contents, script: &[u8]) -> anyhow::Result<()> {
-    let mut lines = Lines(script);
-    let mut over = Over::FIRST;
-    for _ in 0..=script.len() {
-        let next = match over {
+impl<'a> Stage<'a> {
+    // Says the line itself.
+    fn echo(&self, line: &[u8]) -> anyhow::Result<()> {
+        println!(self.rt; "{}", from_utf8(line)?)?;
+        Ok(())
+    }
+
+    // Runs the lines on the board until one asks for another medium, and then tells the log, if any call was made.
+    fn run_over<'s, M: Medium>(
+        &self,
+        board: &mut Board,
+        medium: &mut M,
+        rest: &mut Rest<'s>,
+    ) -> anyhow::Result<Option<Next<'s>>> {
+        let (rt, contents) = (self.rt, self.contents);
+        let mut called = false;
+        let mut next = None;
+        for line in rest.lines.by_ref() {
+            match read_command(rt.alloc(), line)? {
+                None => println!(rt; "not a line")?,
+                Some(Command::Hear(bytes)) => hear(rt, medium, bytes.as_slice())?,
+                Some(Command::Ask(bytes)) => ask(rt, medium, bytes.as_slice())?,
+                Some(Command::Act(act)) => {
+                    tell_act(rt, contents, board, medium, &act)?;
+                    called = true;
+                }
+                Some(Command::Tables(tables)) => {
+                    self.echo(line)?;
+                    rest.tables = tables;
+                }
+                Some(Command::Over(over)) => {
+                    next = Some(Next { over, line });
+                    break;
+                }
+            }
+        }
+        if called {
+            tell_log(rt, contents, board.log())?;
+        }
+        Ok(next)
+    }
+
+    // Runs the lines on a new board over this medium, until one asks for another.
+    fn run_board<'s>(&self, over: Over, rest: &mut Rest<'s>) -> anyhow::Result<Option<Next<'s>>> {
+        let (rt, contents) = (self.rt, self.contents);
+        let mut sessions = session_table(rt, rest.tables.sessions)?;
+        let mut log = event_table(rt, rest.tables.log)?;
+        let mut board = Board::new(self.sheet, &mut sessions, &mut log);
+        match over {
             Over::Enemy { area: bytes, marks } => {
                 let (mut area, mut marks) = (area(rt, bytes)?, area(rt, marks)?);
                 let mut enemy = Enemy::new(rt.alloc(), contents, &mut area, &mut marks)?;
-                run_over(rt, &mut enemy, &mut lines)?
+                self.run_over(&mut board, &mut enemy, rest)
             }
             Over::Relay { area: bytes } => {
                 let mut area = area(rt, bytes)?;
-                run_over(rt, &mut Relay::new(contents, &mut area), &mut lines)?
+                self.run_over(&mut board, &mut Relay::new(contents, &mut area), rest)
             }
-        };
-        match next {
-            Some(other) => over = other,
+        }
+    }
+}
+
+// Runs a script on the sheet, which says this.
+pub fn run_script(
+    rt: &HostRuntime,
+    sheet: &Sheet,
+    contents: &Contents,
+    script: &[u8],
+) -> anyhow::Result<()> {
+    let stage = Stage {
+        rt,
+        sheet,
+        contents,
+    };
+    let mut rest = Rest {
+        lines: Lines(script),
+        tables: Tables::FIRST,
+    };
+    let mut over = Over::FIRST;
+    for _ in 0..=script.len() {
+        match stage.run_board(over, &mut rest)? {
             None => return Ok(()),
+            Some(next) => {
+                stage.echo(next.line)?;
+                over = next.over;
+            }
         }
     }
     Ok(())

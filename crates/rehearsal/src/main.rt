@@ -1,8 +1,11 @@
-// rehearsal: reads a sheet from standard input, and tells what it says and the verdict on it, or its first fault.
+// rehearsal: reads a sheet from standard input, tells what it says and the verdict on it, or its first fault, and runs a contact script on it.
 #![tactic(auto)]
 
+mod calls;
 mod contact;
+mod log;
 mod script;
+mod told;
 mod verdict;
 
 use checker::{Unchecked, check};
@@ -111,7 +114,7 @@ fn run(rt: &HostRuntime) -> anyhow::Result<()> {
         tell_verdict(rt, &sheet, contents)?;
         // The first argument after the program's name.
         if let Some(path) = env::args(rt)?.nth(1) {
-            run_script(rt, contents, fs::read(rt, path)?.as_slice())?;
+            run_script(rt, &sheet, contents, fs::read(rt, path)?.as_slice())?;
         }
     }
     Ok(())

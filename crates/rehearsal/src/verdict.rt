@@ -1,43 +1,10 @@
 // A verdict on a sheet as it is told: the condition that fails, its place, and the least values for which it fails, by their names.
+use super::told::ToldAtom;
 use checker::Verdict;
 use message::Atom;
-use model::{Name, Variable};
+use model::Variable;
 use sheet::Contents;
 use std::fmt;
-
-// An atom by its name, or `#` and its number if it has none.
-#[derive(Clone, Copy)]
-pub struct ToldAtom<'a> {
-    pub contents: &'a Contents,
-    pub atom: Atom,
-}
-
-impl<'a> ToldAtom<'a> {
-    fn number(&self) -> u16 {
-        match self.atom {
-            Atom::Agent(number) => u16::from(number),
-            Atom::Nonce(number) | Atom::Text(number) => number,
-        }
-    }
-
-    fn name(&self) -> Option<Name> {
-        let i = usize::from(self.number());
-        match self.atom {
-            Atom::Agent(_) => self.contents.agents().get(i).map(|agent| agent.name),
-            Atom::Nonce(_) => self.contents.nonces().get(i).map(|nonce| nonce.name),
-            Atom::Text(_) => self.contents.texts().get(i).copied(),
-        }
-    }
-}
-
-impl<'a> fmt::Display for ToldAtom<'a> {
-    fn fmt<W: fmt::Write>(&self, f: &mut fmt::Formatter<W>) -> fmt::Result {
-        match self.name() {
-            Some(name) => write!(f, "{name}"),
-            None => write!(f, "#{}", self.number()),
-        }
-    }
-}
 
 // The verdict on a sheet that says this.
 #[derive(Clone, Copy)]
