@@ -34,3 +34,10 @@ kept_event e = record { word = record { letters = e.word }; atoms = in_places 4 
 -- A board as rehearsals have it.
 abbrev pub board_of : Board → boards.Board
 board_of b = boards.board_of (map session_of (entries b.sessions)) (map event_of (entries b.log))
+
+-- What tables are filled with before a board has them.
+abbrev pub blank_session : Session
+blank_session = record { role = 0; agent = 0; next = 0; values = in_places 5 [] }
+
+abbrev pub blank_event : Event
+blank_event = kept_event (record { word = []; atoms = [] })

@@ -20,8 +20,35 @@ pub struct Event {
     pub atoms: [Option<Atom>; 4],
 }
 
+impl Event {
+    ghost use Rattle.board.specs.Records.{blank_event};
+
+    // What a table may be filled with before a board has it.
+    pub fn blank() -> Event
+        ensures { result ≡ blank_event }
+    {
+        Event {
+            word: Name::new(b""),
+            atoms: [None; 4],
+        }
+    }
+}
+
 impl Session {
+    ghost use Rattle.board.specs.Records.{blank_session};
     ghost use Rattle.board.specs.Steps.{moved};
+
+    // What a table may be filled with before a board has it.
+    pub fn blank() -> Session
+        ensures { result ≡ blank_session }
+    {
+        Session {
+            role: 0,
+            agent: 0,
+            next: 0,
+            values: [None; 5],
+        }
+    }
 
     // One step further.
     pub(super) fn moved(self) -> Session
