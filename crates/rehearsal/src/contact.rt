@@ -4,7 +4,6 @@ use super::log::tell_log;
 use super::script::{Command, Over, Tables, read_command};
 use board::{Board, Event, Session};
 use medium::{Enemy, Medium, Relay};
-use model::Name;
 use sheet::{Contents, Sheet};
 use std::str::from_utf8;
 use text_lines::Lines;
@@ -41,26 +40,6 @@ fn filled<T: Copy>(rt: &HostRuntime, entry: T, count: u16) -> anyhow::Result<Vec
 // An area of so many bytes.
 fn area(rt: &HostRuntime, bytes: u16) -> anyhow::Result<Vec<u8>> {
     filled(rt, 0, bytes)
-}
-
-// A table of so many sessions. What it holds beforehand is never read.
-fn session_table(rt: &HostRuntime, count: u16) -> anyhow::Result<Vec<Session>> {
-    let session = Session {
-        role: 0,
-        agent: 0,
-        next: 0,
-        values: [None; 5],
-    };
-    filled(rt, session, count)
-}
-
-// A table of so many events. What it holds beforehand is never read.
-fn event_table(rt: &HostRuntime, count: u16) -> anyhow::Result<Vec<Event>> {
-    let event = Event {
-        word: Name::new(b""),
-        atoms: [None; 4],
-    };
-    filled(rt, event, count)
 }
 
 // Lets the medium hear the bytes.
@@ -128,8 +107,11 @@ impl<'a> Stage<'a> {
     // Runs the lines on a new board over this medium, until one asks for another.
     fn run_board<'s>(&self, over: Over, rest: &mut Rest<'s>) -> anyhow::Result<Option<Next<'s>>> {
         let (rt, contents) = (self.rt, self.contents);
-        let mut sessions = session_table(rt, rest.tables.sessions)?;
-        let mut log = event_table(rt, rest.tables.log)?;
+        let tables = rest.tables;
+        // What a line says of the tables holds for one board.
+        rest.tables = Tables::DEFAULT;
+        let mut sessions = filled(rt, Session::blank(), tables.sessions)?;
+        let mut log = filled(rt, Event::blank(), tables.log)?;
         let mut board = Board::new(self.sheet, &mut sessions, &mut log);
         match over {
             Over::Enemy { area: bytes, marks } => {
@@ -159,7 +141,7 @@ pub fn run_script(
     };
     let mut rest = Rest {
         lines: Lines(script),
-        tables: Tables::FIRST,
+        tables: Tables::DEFAULT,
     };
     let mut over = Over::FIRST;
     for _ in 0..=script.len() {

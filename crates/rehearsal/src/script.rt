@@ -32,8 +32,8 @@ pub struct Tables {
 }
 
 impl Tables {
-    // What stands before a line says otherwise.
-    pub const FIRST: Tables = Tables {
+    // What they have where no line says otherwise.
+    pub const DEFAULT: Tables = Tables {
         sessions: DEFAULT_TABLE,
         log: DEFAULT_TABLE,
     };
