@@ -1,0 +1,4 @@
+pub mod Playing
+pub mod Stages
+pub mod Reaching
+pub mod Carrying
