@@ -11,23 +11,11 @@ use std::alloc::{AllocError, Global};
 use std::process::Abort;
 use std::test::Fail;
 
-// What a table holds before anything is put there.
-const NO_SESSION: Session = Session {
-    role: 0,
-    agent: 0,
-    next: 0,
-    values: [None; 5],
-};
-
 fn event(word: &[u8], atoms: [Option<Atom>; 4]) -> Event {
     Event {
         word: Name::new(word),
         atoms,
     }
-}
-
-fn no_event() -> Event {
-    event(b"", [None; 4])
 }
 
 fn read(heap: Global, text: &str) -> Result<Sheet, Fail> {
@@ -86,7 +74,7 @@ fn answers_each_call(rt: HostRuntime) -> Result<(), Fail> {
     let contents = sheet.contents().ok_or("the sheet is empty")?;
     let (mut area, mut marks) = ([0u8; SPACE], [0u8; SPACE]);
     let mut enemy = Enemy::new(rt.alloc(), contents, &mut area, &mut marks)?;
-    let (mut sessions, mut log) = ([NO_SESSION; SESSIONS], [no_event(); EVENTS]);
+    let (mut sessions, mut log) = ([Session::blank(); SESSIONS], [Event::blank(); EVENTS]);
     let mut board = Board::new(&sheet, &mut sessions, &mut log);
     check_calls(&rt, &mut board, &mut enemy);
     // What is bound, and what the signals say of it.
@@ -165,7 +153,7 @@ fn declined_calls_change_nothing(rt: HostRuntime) -> Result<(), Fail> {
     let contents = sheet.contents().ok_or("the sheet is empty")?;
     let (mut area, mut marks) = ([0u8; SPACE], [0u8; SPACE]);
     let mut enemy = Enemy::new(rt.alloc(), contents, &mut area, &mut marks)?;
-    let (mut sessions, mut log) = ([NO_SESSION; SESSIONS], [no_event(); EVENTS]);
+    let (mut sessions, mut log) = ([Session::blank(); SESSIONS], [Event::blank(); EVENTS]);
     let mut board = Board::new(&sheet, &mut sessions, &mut log);
     check_declined(&rt, rt.alloc(), &mut board, &mut enemy)
 }
@@ -187,7 +175,7 @@ fn make_each<M: Medium>(
     sheet: &Sheet,
     medium: &mut M,
 ) -> Result<(usize, Held), Fail> {
-    let (mut sessions, mut log) = ([NO_SESSION; SESSIONS], [no_event(); EVENTS]);
+    let (mut sessions, mut log) = ([Session::blank(); SESSIONS], [Event::blank(); EVENTS]);
     let mut board = Board::new(sheet, &mut sessions, &mut log);
     let declined = count_declined(&mut board, medium);
     let held = Held::on(heap, &board)?;
@@ -201,7 +189,7 @@ fn rehearse_all<M: Medium>(
     medium: &mut M,
 ) -> Result<(usize, Held), Fail> {
     let acts: Vec<Act> = CALLS.iter().map(|(call, _)| call.act()).collect(heap)?;
-    let (mut sessions, mut log) = ([NO_SESSION; SESSIONS], [no_event(); EVENTS]);
+    let (mut sessions, mut log) = ([Session::blank(); SESSIONS], [Event::blank(); EVENTS]);
     let mut board = Board::new(sheet, &mut sessions, &mut log);
     let declined = rehearse::<Whole, M>(&mut board, medium, &acts);
     let held = Held::on(heap, &board)?;
