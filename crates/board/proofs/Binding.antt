@@ -5,7 +5,8 @@ use Rattle.std.proofs.Common.{sym, refl, ap, subst, ◌∙◌, inl, inr, ⊎_eli
 use Rattle.std.proofs.lemmas.Bool.{cond-true, cond-false, false≢true}
 use Rattle.std.proofs.Math.Dec.{eqb}
 use Rattle.std.proofs.lemmas.Bool.Decides.{eqb_tells}
-use Rattle.std.proofs.lemmas.Option.{none-some, same_Some}
+use Rattle.std.proofs.lemmas.List.{get_or-set_same, length-set}
+use Rattle.std.proofs.lemmas.Option.{none-some, same_Some, slice_get-get_or, slice_get_within}
 use Rattle.message.specs.declared.Atom.{Atom}
 use Rattle.message.specs.declared.Atom.TheVariants.{Agent, Nonce, Text}
 use Rattle.message.specs.Message.{Fits, KeyFits, key_of, shared, single}
@@ -24,9 +25,7 @@ use Rattle.board.specs.Matching.{bound, bound_key, bound_owner, bound_slot, is_p
 -- ---- places
 
 set_here : {A : Type 0} (os : List (Option A)) (i : ℕ) (o p : Option A) → slice_get os i ≡ Some p → slice_index_or (slice_set os i o) i None ≡ o
-set_here [] i o p e = absurd (none-some p e)
-set_here (x ∷ os) zero o p e = refl
-set_here (x ∷ os) (suc i) o p e = set_here os i o p e
+set_here os i o p e = get_or-set_same os i o None (slice_get_within os i p e)
 
 set_elsewhere : {A : Type 0} (os : List (Option A)) (i j : ℕ) (o : Option A) (y : A) → slice_index_or (slice_set os i o) j None ≡ Some y
     → (slice_index_or os j None ≡ Some y) ⊎ ((j ≡ i) × (o ≡ Some y))
@@ -43,15 +42,8 @@ set_keeps (x ∷ os) zero (suc j) o y e h = h
 set_keeps (x ∷ os) (suc i) zero o y e h = h
 set_keeps (x ∷ os) (suc i) (suc j) o y e h = set_keeps os i j o y e h
 
-set_length : {A : Type 0} (os : List A) (i : ℕ) (o : A) → length (slice_set os i o) ≡ length os
-set_length [] i o = refl
-set_length (x ∷ os) zero o = refl
-set_length (x ∷ os) (suc i) o = ap suc (set_length os i o)
-
 got : {A : Type 0} (os : List (Option A)) (i : ℕ) (p : Option A) → slice_get os i ≡ Some p → slice_index_or os i None ≡ p
-got [] i p e = absurd (none-some p e)
-got (x ∷ os) zero p e = same_Some x p e
-got (x ∷ os) (suc i) p e = got os i p e
+got os i p e = same_Some _ p (sym (slice_get-get_or os i None (slice_get_within os i p e)) ∙ e)
 
 -- ---- what is bound on the way
 
@@ -91,7 +83,7 @@ module _ (me : ℕ) (vs : List model.Variable) where
         set_here os i (Some x) None at,
         record {
           more = λ j y h. set_keeps os i j (Some x) y at h;
-          slots = set_length os i (Some x);
+          slots = length-set os i (Some x);
           bound = λ j y h. ⊎_elim (λ old. inl old)
               (λ new. inr (eq-eqb j i new.0, new_may j y new.0 (same_Some x y new.1) may, subst (λ (z : Atom). Fits (single z)) (same_Some x y new.1) fits))
               (set_elsewhere os i j (Some x) y h);
@@ -143,7 +135,7 @@ module _ (me : ℕ) (vs : List model.Variable) where
         is = cond-true (may_be_bound vs i x) _ None free;
         below = λ j y h. ⊎_elim (λ old. more j y old) (λ new. ap (λ k. slice_index_or after k None) new.0 ∙ is ∙ new.1) (set_elsewhere os i j (Some x) y h);
         above = λ j y h. set_keeps os i j (Some x) y at h;
-        slots = set_length os i (Some x);
+        slots = length-set os i (Some x);
       }
   slot_made os after i x more slots may is (Some (Some y)) at =
       let agrees : y ≡ x = same_Some y x (sym (more i y (got os i (Some y) at)) ∙ is) in

@@ -3,6 +3,7 @@ use Rattle.std.specs.Prelude.{◌≡◌, ℕ, zero, suc, ◌≤◌, Bool, true, 
 use Rattle.std.specs.List.{slice_get}
 use Rattle.std.specs.Option.{option_map}
 use Rattle.std.proofs.Common.{sym, refl, ap, subst, ◌∙◌, arith}
+use Rattle.std.proofs.lemmas.List.{map-set, map_push}
 use Rattle.std.proofs.lemmas.Option.{none-some, same_Some, slice_get-map}
 use Rattle.instances.specs.Actions.{Action, Event, atoms_under, does, done_at, event, receives, sends, signals}
 use Rattle.instances.specs.Instances.{played}
@@ -30,15 +31,6 @@ use Rattle.board.specs.Steps as steps
 use Rattle.board.specs.Steps.{Read, WasRead, next_action, next_step, role_at, step_in}
 use Rattle.board.proofs.Reading.{next_formed}
 
-map_set : {A B : Type 0} (f : A → B) (xs : List A) (i : ℕ) (x : A) → map f (slice_set xs i x) ≡ slice_set (map f xs) i (f x)
-map_set f [] i x = refl
-map_set f (y ∷ xs) zero x = refl
-map_set f (y ∷ xs) (suc i) x = ap (λ l. f y ∷ l) (map_set f xs i x)
-
-pub map_added : {A B : Type 0} (f : A → B) (xs : List A) (x : A) → map f (xs ++ (x ∷ [])) ≡ map f xs ++ (f x ∷ [])
-map_added f [] x = refl
-map_added f (y ∷ xs) x = ap (λ l. f y ∷ l) (map_added f xs x)
-
 -- the role in which a session acts
 acts : (sheet : Sheet) (s : Session) (d : Action) → next_action (Some sheet) s ≡ Some d
     → (role : Role) × (slice_get sheet.roles s.role ≡ Some role) × (does role (played s.agent s.values) s.next ≡ Some d)
@@ -57,7 +49,7 @@ ready sheet b i s d at e =
     record { is-session = slice_get-map session_of (entries b.sessions) i ∙ ap (option_map session_of) at; role = role; is-role = is-role; does-it = does-it }
 
 moves_board : (i : ℕ) (s : Session) (b c : Board) → Moves i s b c → board_of c ≡ boards.board_of (slice_set (board_of b).sessions i (session_of s)) (board_of b).log
-moves_board i s b c m = λ j. boards.board_of ((ap (map session_of) m.sessions ∙ map_set session_of (entries b.sessions) i s) j) (map event_of (entries (m.log j)))
+moves_board i s b c m = λ j. boards.board_of ((ap (map session_of) m.sessions ∙ map-set session_of (entries b.sessions) i s) j) (map event_of (entries (m.log j)))
 
 -- ---- send
 
@@ -193,8 +185,8 @@ signals_apart law i b c r read h sheet on = go (signal_of b i) refl
         let next : next_action (Some sheet) x.session ≡ Some (signals e) = subst (λ (o : Option Sheet). next_action o x.session ≡ Some (signals e)) on (signalled_is _ e says) in
         let was : WasRead (Some sheet) = subst Read on read in
         let whole = step_kept (played x.session.agent x.session.values) (next_step (Some sheet) x.session) e next (λ s is. next_formed law (Some sheet) was x.session s is) in
-        let sessions = ap (map session_of) p ∙ map_set session_of (entries b.sessions) i (steps.moved x.session x.session.values) in
-        let log = ap (map event_of) q ∙ map_added event_of (entries b.log) x.event ∙ ap (λ z. map event_of (entries b.log) ++ (z ∷ [])) (ap event_of kept ∙ whole) in
+        let sessions = ap (map session_of) p ∙ map-set session_of (entries b.sessions) i (steps.moved x.session x.session.values) in
+        let log = ap (map event_of) q ∙ map_push event_of (entries b.log) x.event ∙ ap (λ z. map event_of (entries b.log) ++ (z ∷ [])) (ap event_of kept ∙ whole) in
         subst (Apart sheet (board_of b)) (λ j. boards.board_of (sym sessions j) (sym log j)) (signalled i (session_of x.session) e (ready sheet b i x.session (signals e) at next))
 
     go : (q : Result Signalling Refusal) → signal_of b i ≡ q → Apart sheet (board_of b) (board_of c)

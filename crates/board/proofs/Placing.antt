@@ -2,7 +2,7 @@
 use Rattle.std.proofs.Common.{◌≡◌, ℕ, zero, suc, ◌+◌, ◌<◌, ◌≤◌, List, [], ◌∷◌, ◌++◌, Some, None, Option, length, drop, take, sym, refl, ap, ◌∙◌, add-one, arith, length-append}
 use Rattle.std.specs.Prelude.{slice_set}
 use Rattle.std.specs.List.{slice_get}
-use Rattle.std.proofs.lemmas.List.{append-nil}
+use Rattle.std.proofs.lemmas.List.{append-nil, take_all}
 use Rattle.std.proofs.lemmas.Option.{none-some, same_Some}
 use Rattle.instances.specs.Substitution.{both}
 use Rattle.instances.proofs.Parts.{of-both}
@@ -64,13 +64,7 @@ module _ {A B : Type 0} (f : ℕ → A → Option B) where
   -- all are placed
   pub placed_all : (xs : List A) (table now : List B) (i : ℕ) → Placed xs table i now → length xs ≤ i
       → (ys : List B) × (each f 0 xs ≡ Some ys) × (length ys ≡ i) × (now ≡ ys ++ drop i table)
-  placed_all xs table now i p h = (p.ys, ap (λ l. each f 0 l) (sym (take_all xs i h)) ∙ p.are, p.many, p.lie)
-    where
-      take_all : (zs : List A) (n : ℕ) → length zs ≤ n → take n zs ≡ zs
-      take_all [] zero l = refl
-      take_all [] (suc n) l = refl
-      take_all (z ∷ zs) zero l = absurd (omega arith)
-      take_all (z ∷ zs) (suc n) l = ap (λ t. z ∷ t) (take_all zs n (omega arith))
+  placed_all xs table now i p h = (p.ys, ap (λ l. each f 0 l) (sym (take_all i xs h)) ∙ p.are, p.many, p.lie)
 
   pub each_length : (k : ℕ) (xs : List A) (ys : List B) → each f k xs ≡ Some ys → length ys ≡ length xs
   each_length k [] ys e = ap length (sym (same_Some [] ys e))

@@ -1,5 +1,5 @@
 -- The guarantee, of a sheet that the check accepts.
-use Rattle.std.proofs.Common.{◌≡◌, Some, Option, subst}
+use Rattle.std.proofs.Common.{Option, subst}
 use Rattle.medium.specs.Media.{Meaning}
 use Rattle.model.specs.Sheet.{Sheet}
 use Rattle.rehearsals.specs.Rehearsals.{Guarded}

@@ -5,6 +5,7 @@ use Rattle.model.specs.declared.node.Field.{Field}
 use Rattle.model.specs.declared.node.Field.TheVariants as field
 use Rattle.model.specs.Trees.{Term, leaf, pair, key, seal}
 use Rattle.sheet_laws.specs.References.{NamesRefer, Place, RefersFirst, RoleRefers, StepRefers, TermRefers, in_role}
+use Rattle.sheet_laws.proofs.Messaging.{each_at}
 use Rattle.board.specs.Matching.{is_player}
 use Rattle.board.specs.Receiving.{Receives}
 use Rattle.board.proofs.Comparing.{Owned}
@@ -15,7 +16,6 @@ use Rattle.sheet.specs.Sheets.{reading}
 use Rattle.sheet_laws.specs.Signals.{FormedStep, SignalsFormed}
 use Rattle.board.specs.declared.records.Session.{Session}
 use Rattle.board.specs.Steps.{WasRead, next_step, step_in}
-use Rattle.board.proofs.Lists.{each_at}
 
 -- what holds of each step of each role of a sheet that is read holds of a session's next step
 next_is : (P : Step → Type 0) (Q : Role → Type 0) → ((role : Role) (k : ℕ) (s : Step) → Q role → slice_get role.steps k ≡ Some s → P s)

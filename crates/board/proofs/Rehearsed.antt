@@ -1,10 +1,11 @@
 -- The calls that are made one after another are a rehearsal.
-use Rattle.std.specs.Prelude.{◌≡◌, ℕ, zero, suc, ◌+◌, ◌≤◌, true, false, List, [], ◌∷◌, ◌++◌, map, length, take, Some, Result, Ok, Err}
+use Rattle.std.specs.Prelude.{◌≡◌, ℕ, suc, ◌+◌, true, false, List, [], ◌∷◌, ◌++◌, map, take, Some, Result, Ok, Err}
 use Rattle.std.specs.List.{slice_get}
-use Rattle.std.proofs.Common.{sym, refl, ap, subst, ◌∙◌, add-one, arith}
+use Rattle.std.proofs.Common.{get_or, sym, refl, ap, subst, ◌∙◌, add-one}
 use Rattle.std.specs.Result.{is_err}
 use Rattle.std.proofs.lemmas.Bool.{false≢true}
-use Rattle.std.proofs.lemmas.Option.{none-some, same_Some}
+use Rattle.std.proofs.lemmas.Option.{same_Some, slice_get-get_or, slice_get_within}
+use Rattle.std.proofs.Math.Seq.{take-suc}
 use Rattle.medium.specs.Media.{Meaning}
 use Rattle.message.specs.Message.{Msg}
 use Rattle.model.specs.Sheet.{Sheet}
@@ -52,25 +53,15 @@ module _ {X : Type 0} (meaning : X → Meaning) where
 
   module _ (takes : X → Msg → X → Type 0) where
     take_last : {A : Type 0} (xs : List A) (i : ℕ) (x : A) → slice_get xs i ≡ Some x → take (suc i) xs ≡ take i xs ++ (x ∷ [])
-    take_last [] i x e = absurd (none-some x e)
-    take_last (y ∷ xs) zero x e = ap (λ z. z ∷ []) (same_Some y x e)
-    take_last (y ∷ xs) (suc i) x e = ap (λ l. y ∷ l) (take_last xs i x e)
+    take_last xs i x e =
+        let within = slice_get_within xs i x e in
+        take-suc xs i x within ∙ ap (λ z. take i xs ++ (z ∷ [])) (same_Some (get_or xs i x) x (sym (slice_get-get_or xs i x within) ∙ e))
 
     -- one act more
     pub plays_further : (b c d : Board) (x y z : X) (all : List Act) (i n : ℕ) (a : Act) (result : Result (Unit {0}) Refusal) → slice_get all i ≡ Some a
         → Plays meaning takes b x (take i all) c y n → Does meaning takes a c y d z result → Plays meaning takes b x (take (i + 1) all) d z (n + declined_by result)
     plays_further b c d x y z all i n a result at h does =
         rw add-one (subst (λ (l : List Act). Plays meaning takes b x l d z (n + declined_by result)) (sym (take_last all i a at)) (acts.further a result h does))
-
-    take_all : {A : Type 0} (xs : List A) (n : ℕ) → length xs ≤ n → take n xs ≡ xs
-    take_all [] zero l = refl
-    take_all [] (suc n) l = refl
-    take_all (z ∷ xs) zero l = absurd (omega arith)
-    take_all (z ∷ xs) (suc n) l = ap (λ t. z ∷ t) (take_all xs n (omega arith))
-
-    -- all acts
-    pub plays_all : (b c : Board) (x y : X) (all : List Act) (i n : ℕ) → length all ≤ i → Plays meaning takes b x (take i all) c y n → Plays meaning takes b x all c y n
-    plays_all b c x y all i n le h = subst (λ (l : List Act). Plays meaning takes b x l c y n) (take_all all i le) h
 
 pub one_declined : (r : Result (Unit {0}) Refusal) → is_err r ≡ true → declined_by r ≡ 1
 one_declined (Err e) h = refl

@@ -5,6 +5,7 @@ use Rattle.std.specs.Option.{option_map}
 use Rattle.std.proofs.Common.{sym, refl, ap, subst, ◌∙◌, inl, inr, arith, eqb-true}
 use Rattle.std.proofs.lemmas.Bool.{cond-true, cond-false, false≢true}
 use Rattle.std.proofs.lemmas.Bool.Decides.{nat_tests}
+use Rattle.std.proofs.lemmas.List.{map_push}
 use Rattle.std.proofs.lemmas.Option.{none-some, same_Some, cond_some, slice_get_within}
 use Rattle.message.specs.declared.Atom.{Atom}
 use Rattle.message.specs.declared.Kind.{Kind}
@@ -12,7 +13,7 @@ use Rattle.message.specs.declared.Kind.TheVariants as kind
 use Rattle.message.specs.Message.{atom, size}
 use Rattle.model.specs.declared.node.Sort.{Sort}
 use Rattle.model.specs.declared.node.Sort.TheVariants.{Fresh, Plain}
-use Rattle.model.specs.Sheet.{Nonce, Role, Sheet, Variable, honest, is_for, named, plays}
+use Rattle.model.specs.Sheet.{Nonce, Role, Sheet, Variable, honest, named, plays}
 use Rattle.instances.specs.Instances.{Allowed, NamedFor}
 use Rattle.instances.specs.Substitution.{atom_at}
 use Rattle.ranks.proofs.Settling.{first_true, second_true}
@@ -21,6 +22,7 @@ use Rattle.rehearsals.specs.Boards.{New, awaited}
 use Rattle.rehearsals.proofs.Sessions.{Begun, filled, filled_instance, filled_more}
 use Rattle.sheet_laws.specs.Counts.{CountsInRange, ScriptCounted}
 use Rattle.tables.specs.Entries.{entries, full}
+use Rattle.sheet_laws.proofs.Messaging.{each_at}
 use Rattle.board.specs.declared.board.Board.{Board}
 use Rattle.board.specs.declared.records.Session.{Session}
 use Rattle.board.specs.declared.refusal.Refusal.{Refusal}
@@ -30,8 +32,7 @@ use Rattle.board.specs.Placing.{each}
 use Rattle.board.specs.Records.{board_of, event_of, session_of}
 use Rattle.board.specs.Starts.{Starts, chosen, chosen_for, in_role, is_own, nothing, sessions_started, slot_of, to_start, with_values}
 use Rattle.board.specs.Steps.{Read, WasRead}
-use Rattle.board.proofs.Calling.{err_ok, map_added, ok_ok, same_board}
-use Rattle.board.proofs.Lists.{each_at}
+use Rattle.board.proofs.Calling.{err_ok, ok_ok, same_board}
 use Rattle.board.proofs.Placing.{each_gives, each_length}
 
 -- ---- what one variable stands for
@@ -209,7 +210,7 @@ starts_apart law r a numbers five b c result read h sheet on = go (to_start r a 
     put s is true fills p = unchanged p
     put s is false fills p =
         let is-new = new_started law sheet (subst Read on read) r a numbers five s (subst (λ (o : Option Sheet). to_start r a numbers o ≡ Ok s) on is) in
-        let sessions = ap (map session_of) p ∙ map_added session_of (entries b.sessions) s in
+        let sessions = ap (map session_of) p ∙ map_push session_of (entries b.sessions) s in
         subst (Apart sheet (board_of b)) (λ j. boards.board_of (sym sessions j) (map event_of (sym log j))) (started (session_of s) is-new)
 
     go : (q : Result Session Refusal) → to_start r a numbers b.sheet.now ≡ q → Apart sheet (board_of b) (board_of c)

@@ -5,7 +5,6 @@ use Rattle.std.specs.List.{slice_get}
 use Rattle.std.proofs.lemmas.Bool.{cases_order}
 use Rattle.std.proofs.lemmas.Option.{none-some, same_Some}
 use Rattle.message.specs.declared.Atom.{Atom}
-use Rattle.message.specs.declared.Kind.{Kind}
 use Rattle.model.specs.declared.node.Sort.{Sort}
 use Rattle.model.specs.declared.node.Sort.TheVariants.{Fresh, Plain}
 use Rattle.model.specs.Sheet.{Role, Sheet, Variable}

@@ -1,9 +1,8 @@
 -- What the least row that breaks the test of a role's steps is, where the pieces of the test are made from a sheet that was read.
-use Rattle.std.proofs.Common.{◌≡◌, ℕ, zero, suc, ◌<◌, ◌≤◌, List, [], ◌∷◌, map, length, take, Some, None, Option, sym, subst}
+use Rattle.std.proofs.Common.{◌≡◌, ℕ, ◌<◌, ◌≤◌, List, map, length, take, Some, None, Option, sym, subst}
 use Rattle.std.specs.Prelude.{Vec}
 use Rattle.std.specs.declared.alloc.Global.{Global}
-use Rattle.std.specs.List.{slice_get, AllByRecursion}
-use Rattle.std.proofs.lemmas.Option.{none-some, same_Some}
+use Rattle.std.specs.List.{slice_get}
 use Rattle.message.specs.declared.Atom.{Atom}
 use Rattle.message.specs.declared.Kind.{Kind}
 use Rattle.model.specs.Sheet.{Role, Sheet, Step}
@@ -17,17 +16,12 @@ use Rattle.sheet_laws.specs.Counts.{ScriptCounted}
 use Rattle.sheet_laws.specs.References.{Referring}
 use Rattle.sheet_laws.proofs.Counting.{in_range}
 use Rattle.sheet_laws.proofs.References.{names_refer}
+use Rattle.sheet_laws.proofs.Messaging.{each_at}
 use Rattle.checker.specs.Narrowing.{LeastFor, WasRead}
 use Rattle.checker.specs.Rows.{choice_at, counts, fitted, role_choices, role_slots}
 use Rattle.checker.specs.Tests.{RowBreaks}
 use Rattle.checker.specs.Verdicts.{BadStep, FirstOf}
 use Rattle.checker.proofs.StepTesting.{least_bad, none_bad, rows_blind}
-
--- What holds of each holds of the one of a number.
-pub each_at : {X : Type 0} (P : X → Type 0) (xs : List X) (i : ℕ) (x : X) → AllByRecursion P xs → slice_get xs i ≡ Some x → P x
-each_at P [] i x h is = absurd (none-some x is)
-each_at P (y ∷ ys) zero x h is = subst P (same_Some y x is) h.0
-each_at P (y ∷ ys) (suc i) x h is = each_at P ys i x h.1 is
 
 pub refers : (sheet : Sheet) → WasRead sheet → Referring sheet
 refers sheet (text, is) = names_refer text sheet is

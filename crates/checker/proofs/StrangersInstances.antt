@@ -1,8 +1,8 @@
 -- The exchange of two strangers keeps instances, and where a condition fails.
-use Rattle.std.proofs.Common.{◌≡◌, ℕ, zero, suc, ◌+◌, ◌≤◌, ◌⊎◌, Bool, true, false, MatchBool, List, [], ◌∷◌, length, Some, None, Option, slice_index_or, inl, inr, sym, ap, subst, ◌∙◌, ⊎_elim}
+use Rattle.std.proofs.Common.{◌≡◌, ℕ, ◌+◌, ◌≤◌, ◌⊎◌, Bool, true, false, MatchBool, List, [], ◌∷◌, length, Some, None, Option, slice_index_or, inl, inr, sym, ap, subst, ◌∙◌, ⊎_elim}
 use Rattle.std.proofs.lemmas.Bool.{cases_lt, false≢true}
 use Rattle.std.proofs.lemmas.List.{length-map}
-use Rattle.std.proofs.lemmas.Option.{none-some, same_Some, slice_get_past, slice_get_within}
+use Rattle.std.proofs.lemmas.Option.{slice_get_past, slice_get_within}
 use Rattle.std.specs.List.{slice_get, AllByRecursion}
 use Rattle.std.specs.Option.{option_map}
 use Rattle.message.specs.declared.Atom.{Atom}
@@ -21,16 +21,11 @@ use Rattle.scale.specs.Scales.{Scale}
 use Rattle.ranks.specs.Conditions.{Maintains}
 use Rattle.ranks.specs.Ranks.{kind_of}
 use Rattle.sheet_laws.specs.References.{Referring, RoleRefers, SealRefers, StepRefers, TermRefers, in_role, in_seals}
+use Rattle.sheet_laws.proofs.Messaging.{each_at}
 use Rattle.checker.specs.Verdicts.{BadSeal, BadStep, EachStanding}
 use Rattle.checker.proofs.Strangers.{Exchange, Strangers, atom_swapped, number_below, number_kept, number_unnamed, of_swapped, swapped_action, swapped_atom, swapped_event, swapped_key, swapped_message, swapped_number, swapped_value, swapped_values, value_back, values_back}
 use Rattle.checker.proofs.StrangersRanks.{free_message, gives_both, lists_event_both, positive_both, positive_event_both, seal_term}
 use Rattle.checker.proofs.StrangersTerms.{does_swapped, few_in_role, message_swapped, swapped_under, variable_swapped}
-
--- What holds of each holds of the one of a number.
-each_at : {X : Type 0} (P : X → Type 0) (xs : List X) (i : ℕ) (x : X) → AllByRecursion P xs → slice_get xs i ≡ Some x → P x
-each_at P [] i x h is = absurd (none-some x is)
-each_at P (y ∷ ys) zero x h is = subst P (same_Some y x is) h.0
-each_at P (y ∷ ys) (suc i) x h is = each_at P ys i x h.1 is
 
 -- what is there after the exchange was there before
 there_before : (e : Exchange) (o : Option Atom) (x : Atom) → swapped_value e o ≡ Some x → o ≡ Some (swapped_atom e x)

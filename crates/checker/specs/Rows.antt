@@ -1,5 +1,5 @@
 -- Rows of numbers and the values that they are: what the search for the least breaking instance goes over.
-use Rattle.std.specs.Prelude.{ℕ, ◌+◌, Bool, true, cond, ◌&&◌, List, [], ◌∷◌, map, length, replicate, Some, None, Option, ◌==◌, nat_le}
+use Rattle.std.specs.Prelude.{ℕ, ◌+◌, Bool, true, cond, List, [], ◌∷◌, map, length, replicate, Some, None, Option, nat_le}
 use Rattle.std.specs.Option.{option_map}
 use Rattle.message.specs.declared.Atom.{Atom}
 use Rattle.message.specs.declared.Kind.{Kind}

@@ -6,7 +6,7 @@ use Rattle.std.proofs.Math.Decide.{ℕ_discrete}
 use Rattle.std.proofs.lemmas.Bool.{eq-eqb, ne_eqb}
 use Rattle.std.proofs.lemmas.List.{append-nil, map_push}
 use Rattle.std.proofs.lemmas.List.Elements.{Contains-append_cases, filter-append}
-use Rattle.std.proofs.lemmas.Option.{none-some, same_Some, slice_get_within}
+use Rattle.std.proofs.lemmas.Option.{none-some, same_Some, slice_get_past, slice_get_within}
 use Rattle.message.specs.declared.Atom.{Atom}
 use Rattle.model.specs.Sheet.{Role, Sheet, Step}
 use Rattle.instances.specs.Actions.{Action, Event, does, done_at, receives, sends, signals}
@@ -47,10 +47,6 @@ module _ {A : Type 0} where
   added_none [] j y e = refl
   added_none (x ∷ xs) zero y e = e
   added_none (x ∷ xs) (suc j) y e = added_none xs j y e
-
-  past_end : (xs : List A) → slice_get xs (length xs) ≡ None
-  past_end [] = refl
-  past_end (x ∷ xs) = past_end xs
 
   alone : (x y : A) → Contains (x ∷ []) y → y ≡ x
   alone x y (zero, h, e) = sym e
@@ -135,7 +131,7 @@ module _ (sheet : Sheet) where
   }
     where
       nothing : (j : ℕ) → j ≡ length b.sessions → deeds_of j ds ≡ []
-      nothing j end = k.others j (ap (slice_get b.sessions) end ∙ past_end b.sessions)
+      nothing j end = k.others j (ap (slice_get b.sessions) end ∙ slice_get_past b.sessions (length b.sessions) (omega arith))
 
       last : (j : ℕ) (t : Session) → t ≡ s → j ≡ length b.sessions → InOrder sheet t (deeds_of j ds)
       last j t same end =

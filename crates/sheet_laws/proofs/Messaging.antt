@@ -183,7 +183,7 @@ module _ (sheet : Sheet) (counted : Counted sheet) where
 -- ---- sheets that are read
 
 -- what holds of each holds of the one of a number
-each_at : {X : Type 0} (P : X → Type 0) (xs : List X) (i : ℕ) (x : X) → AllByRecursion P xs → slice_get xs i ≡ Some x → P x
+pub each_at : {X : Type 0} (P : X → Type 0) (xs : List X) (i : ℕ) (x : X) → AllByRecursion P xs → slice_get xs i ≡ Some x → P x
 each_at P [] i x h e = absurd (none-some e)
 each_at P (y ∷ ys) zero x h e = let same : y ≡ x = cc in subst P same h.0
 each_at P (y ∷ ys) (suc i) x h e = each_at P ys i x h.1 e
