@@ -1,10 +1,11 @@
 -- Numbers from their digits, as std reads them.
-use Rattle.std.proofs.Common.{◌≡◌, ℕ, ◌^◌, ◌<◌, ◌≤◌, Bool, true, false, cond, ◌&&◌, leb, List, length, get_or, Some, None, Ok, Err, Option, Result, Bor, MatchResult, sym, refl, ap, ◌∙◌, arith, rules}
-use Rattle.std.proofs.lemmas.Bool.{and_parts, leb-true, lt-leb}
+use Rattle.std.proofs.Common.{◌≡◌, ℕ, ◌+◌, ◌-◌, ◌*◌, ◌^◌, ◌<◌, ◌≤◌, Bool, true, false, cond, ◌&&◌, leb, List, [], ◌∷◌, length, get_or, Some, None, Ok, Err, Option, Result, Bor, MatchResult, sym, refl, ap, ◌∙◌, arith, rules}
+use Rattle.std.proofs.lemmas.Bool.{and_parts, cond-false, leb-true, lt-leb}
 use Rattle.std.proofs.lemmas.Grind.{common_steps}
 use Rattle.std.proofs.lemmas.Str.{IsUtf8-from_ascii}
 use Rattle.std.proofs.lemmas.Str.Parse.{IsNumeralModel, digit_at, numerals_by_fold, parse_digits}
 use Rattle.std.specs.Bool.{then_some}
+use Rattle.std.specs.Char.{is_ascii_digit}
 use Rattle.std.specs.Result.{OkIff, result_ok}
 use Rattle.std.specs.Str.{IsUtf8}
 use Rattle.std.specs.Str.Parse.{ParsesUnsigned}
@@ -49,3 +50,32 @@ module _ (cs : List ℕ) (d : true ≡ digits cs) where
       by (Err x) more =
           let large : 2 ^ 16 ≤ number 0 cs = grind (arith, some, more) in
           sym (ap (λ b. then_some b (number 0 cs)) (lt-leb (number 0 cs) 32768 (omega arith)))
+
+-- more digits make no smaller number
+number-least : (n : ℕ) (cs : List ℕ) → n ≤ number n cs
+number-least n [] = omega arith
+number-least n (c ∷ cs) = omega (arith, number-least (n * 10 + (c - 48)) cs)
+
+-- six digits, of which the first is no 0, make more than the largest
+six : (a b c d e f : ℕ) (cs : List ℕ) → digits (a ∷ b ∷ c ∷ d ∷ e ∷ f ∷ cs) ≡ true → unpadded (a ∷ b ∷ c ∷ d ∷ e ∷ f ∷ cs) ≡ true → 32768 < number 0 (a ∷ b ∷ c ∷ d ∷ e ∷ f ∷ cs)
+six a b c d e f cs digit plain =
+    let one : is_ascii_digit a ≡ true = (and_parts (is_ascii_digit a) _ digit).0 in
+    let least : 48 ≤ a = grind (arith, common_steps, one) in
+    let other : 48 < a = grind (arith, common_steps, plain, least) in
+    omega (arith, other, number-least ((((((0 * 10 + (a - 48)) * 10 + (b - 48)) * 10 + (c - 48)) * 10 + (d - 48)) * 10 + (e - 48)) * 10 + (f - 48)) cs)
+
+-- what has more than five digits writes no number, or too large a one
+pub too-long : (cs : List ℕ) → 5 < length cs → None ≡ magnitude cs
+too-long [] h = absurd (omega (arith, h))
+too-long (a ∷ []) h = absurd (omega (arith, h))
+too-long (a ∷ b ∷ []) h = absurd (omega (arith, h))
+too-long (a ∷ b ∷ c ∷ []) h = absurd (omega (arith, h))
+too-long (a ∷ b ∷ c ∷ d ∷ []) h = absurd (omega (arith, h))
+too-long (a ∷ b ∷ c ∷ d ∷ e ∷ []) h = absurd (omega (arith, h))
+too-long (a ∷ b ∷ c ∷ d ∷ e ∷ f ∷ cs) h =
+    long (digits (a ∷ b ∷ c ∷ d ∷ e ∷ f ∷ cs)) (unpadded (a ∷ b ∷ c ∷ d ∷ e ∷ f ∷ cs)) (number 0 (a ∷ b ∷ c ∷ d ∷ e ∷ f ∷ cs)) (six a b c d e f cs)
+  where
+    long : (d u : Bool) (n : ℕ) → (d ≡ true → u ≡ true → 32768 < n) → None ≡ cond (d && u && leb n 32768) (Some n) None
+    long true true n more = sym (cond-false _ _ _ (lt-leb n 32768 (more refl refl)))
+    long true false n _ = refl
+    long false u n _ = refl

@@ -7,6 +7,9 @@ use std::str::from_utf8;
 // No value is farther from 0.
 const LARGEST: u16 = 32_768;
 
+// No value has more digits.
+const MOST_DIGITS: usize = 5;
+
 // Whether there is one digit or more, and no 0 before another.
 fn is_unpadded(digits: &[u8]) -> bool
     ensures { result ≡ unpadded digits.now }
@@ -28,6 +31,10 @@ fn are_digits(bytes: &[u8]) -> bool
 fn read_magnitude(digits: &[u8]) -> Option<u16>
     ensures { result ≡ magnitude digits.now }
 {
+    // A text of any length costs no more than the digits of a value.
+    if digits.len() > MOST_DIGITS {
+        return None;
+    }
     // The parse of std would also take `+5` and `007`.
     if !are_digits(digits) || !is_unpadded(digits) {
         return None;

@@ -1,6 +1,9 @@
 use Rattle.std.proofs.Common.{sym, ap, ◌∙◌}
-use Rattle.terms.proofs.Magnitudes.{capped, no-text, parsed, text-is}
+use Rattle.terms.proofs.Magnitudes.{capped, no-text, parsed, text-is, too-long}
 use Rattle.terms.proofs.value.read_magnitude.Goals as goal
+
+pub returns-then-digits-gt-MOST_DIGITS : goal.returns-then-digits-gt-MOST_DIGITS
+returns-then-digits-gt-MOST_DIGITS c = too-long c.args.digits.now c.if-digits-gt-MOST_DIGITS.true
 
 pub returns-in_err-ok : goal.returns-in_err-ok
 returns-in_err-ok c = absurd (no-text c.args.digits.now c.if-not-are_digits.ensures _ c.from_utf8.result c.from_utf8.ensures.cases (sym c.ok.ensures.value ∙ c.in_err-ok.was))
