@@ -2,6 +2,7 @@
 #![tactic(auto)]
 
 use explain::{Unanswered, explain};
+use message::NotMessage;
 use std::io::Read;
 use tally::Tally;
 use text_lines::Lines;
@@ -15,8 +16,10 @@ fn answer_line(rt: &HostRuntime, line: &[u8], tally: &mut Tally) -> anyhow::Resu
     tally.count(&answer);
     match answer {
         Ok(told) => println!(rt; "{told}")?,
+        // These two are printed from texts of their own: to print the error itself costs a short line up to a third more.
+        Err(Unanswered::NotMessage) => println!(rt; "refusal {}", NotMessage.number())?,
+        Err(Unanswered::NotBytes) => println!(rt; "not bytes")?,
         Err(why @ Unanswered::NoMemory) => return Err(why.into()),
-        Err(why) => println!(rt; "{why}")?,
     }
     Ok(())
 }
