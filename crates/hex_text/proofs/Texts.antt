@@ -29,7 +29,7 @@ part_at b bs line cut s =
     let (h, l, m, e, p, f) = part b bs line s in
     subst (λ t. Pair (get_or t 0 0) (get_or t 1 0) b × Follows bs (drop 2 t)) (sym e ∙ cut) (p, f)
 
-two-at-least : (b : ℕ) (bs line : List ℕ) → Spells (b ∷ bs) line → length line < 2 → ⊥
+pub two-at-least : (b : ℕ) (bs line : List ℕ) → Spells (b ∷ bs) line → length line < 2 → ⊥
 two-at-least b bs line s short = let (h, l, m, e, p, f) = part b bs line s in omega (arith, ap length e)
 
 one-digit : (code v w : ℕ) → Digit code v → Digit code w → v ≡ w
